@@ -5,8 +5,9 @@
     .ci/names.py --check     compares them with the list .ci/names.txt; status 1 where one is new, or one that is listed is gone
     .ci/names.py --write     writes the list; it is to grow shorter
 
-A definition is one of `specs/`, whether private or not; a type is a struct, enum or trait of `src/`. Crates of tests and benchmarks
-do not count: nobody reads them to learn a word.
+A definition is one of `specs/`, whether private or not; a type is a struct, enum, trait or alias of `src/`, or a type that a trait asks
+for (what an implementation gives for it is no name of its own). Crates of tests and benchmarks do not count: nobody reads them to
+learn a word.
 """
 import importlib.util
 import re
@@ -18,7 +19,7 @@ TOP = Path(__file__).resolve().parent.parent
 LIST = TOP / ".ci" / "names.txt"
 MOST_ARGUMENTS = 6
 
-TYPE = re.compile(r"^\s*(?:pub(?:\([a-z]+\))? )?(?:struct|enum|trait|type) (\w+)", re.M)
+TYPE = re.compile(r"^\s*(?:pub(?:\([a-z]+\))? )?(?:struct|enum|trait) (\w+)|^(?:pub(?:\([a-z]+\))? )?type (\w+)|^\s+type (\w+)[;:]", re.M)
 PARAMETERS = re.compile(r"\(([^():]+):")
 BRACKETS = re.compile(r"[({\[][^(){}\[\]]*[)}\]]")
 
@@ -32,7 +33,7 @@ def statement():
 
 
 def is_read(crate):
-    return not crate.endswith(("_tests", "_bench"))
+    return not crate.startswith(("tests_", "bench_"))
 
 
 def in_two_crates(found):
@@ -47,8 +48,8 @@ def in_two_crates(found):
 def types():
     for path in (TOP / "crates").glob("*/src/**/*.rt"):
         crate = path.relative_to(TOP / "crates").parts[0]
-        for name in TYPE.findall(path.read_text()):
-            yield name, crate
+        for found in TYPE.finditer(path.read_text()):
+            yield found[found.lastindex], crate
 
 
 def arguments_of(head):

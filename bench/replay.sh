@@ -1,6 +1,6 @@
 #!/usr/bin/env bash
 # Replays that grow: rank 0 sends a growing number of messages to rank 1, and both are replayed on one thread from their log. First
-# `wiz replay LOG --serial`, with programs as long as a text may be; then `replay_bench`, which makes the
+# `wiz replay LOG --serial`, with programs as long as a text may be; then `bench_replay`, which makes the
 # log and the program in memory. Needs `rt`. A row gives processor time (user and system, from start to end) in milliseconds:
 # the median of five measurements and their range, each the mean of ten runs. `growth` is the median against that of the row
 # above.
@@ -71,12 +71,12 @@ for size in 80 160 320 600; do
   above=$(echo "$found" | cut -d' ' -f3)
 done
 
-(cd "$top/crates/replay_bench" && rt run -- 10) >"$work/build.log" 2>&1 || { cat "$work/build.log" >&2; exit 1; }
-echo 'replay_bench MESSAGES'
+(cd "$top/crates/bench_replay" && rt run -- 10) >"$work/build.log" 2>&1 || { cat "$work/build.log" >&2; exit 1; }
+echo 'bench_replay MESSAGES'
 head_row
 above=0
 for size in 12500 25000 50000 100000; do
-  found=$(times "$size messages $((3 * size + 2)) events 2 ranks ended" "$top/crates/replay_bench/out/replay_bench" "$size")
+  found=$(times "$size messages $((3 * size + 2)) events 2 ranks ended" "$top/crates/bench_replay/out/bench_replay" "$size")
   row "$size" "$above" $found
   above=$(echo "$found" | cut -d' ' -f3)
 done

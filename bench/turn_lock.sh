@@ -8,8 +8,8 @@ top=$(cd "$(dirname "$0")/.." && pwd)
 work=$(mktemp -d)
 trap 'rm -rf "$work"' EXIT
 
-lock="$top/crates/lock_bench/out/lock_bench"
-(cd "$top/crates/lock_bench" && rt run -- 2 10) >"$work/build.log" 2>&1 || { cat "$work/build.log" >&2; exit 1; }
+lock="$top/crates/bench_lock/out/bench_lock"
+(cd "$top/crates/bench_lock" && rt run -- 2 10) >"$work/build.log" 2>&1 || { cat "$work/build.log" >&2; exit 1; }
 
 cat >"$work/mutex.rs" <<'RUST'
 use std::sync::Mutex;

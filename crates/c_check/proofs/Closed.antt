@@ -8,12 +8,12 @@ use Rattle.c_names.specs.declared.kind.VariableKind.{VariableKind}
 use Rattle.c_check_expr.specs.Scopes.{Env, closed, opened}
 use Rattle.c_check_expr.specs.Signatures.{listed}
 use Rattle.c_check_expr.specs.Kinds.{kind_of_symbol}
-use Rattle.c_check.specs.Statements.{after_declaration, after_item, after_items, after_part, after_parts, after_start}
+use Rattle.c_check.specs.Statements.{after_declaration, after_item, after_declarators, after_part, after_parts, after_start}
 
 abbrev pub closing : Env → Env
 closing env = record env { entries = closed env.entries }
 
-closed_items : (env : Env) (kind : VariableKind) (items : List t.InitDeclarator) → closing (after_items env kind items) ≡ closing env
+closed_items : (env : Env) (kind : VariableKind) (items : List t.InitDeclarator) → closing (after_declarators env kind items) ≡ closing env
 closed_items env kind [] = refl
 closed_items env kind (item ∷ items) = closed_items (after_item env kind item) kind items
 

@@ -12,10 +12,10 @@ use Rattle.c_grammar.specs.Tree as t
 use Rattle.c_grammar.specs.declared.terminal.Span.{Span}
 use Rattle.c_lex.specs.declared.fault.Why.TheVariants.{Twice}
 use Rattle.c_names.specs.Predefined.{predefined}
-use Rattle.c_check_expr.specs.Least.{unless}
+use Rattle.c_check_expr.specs.Least.{fault_unless}
 use Rattle.c_check_expr.specs.Scopes.{Env, token_bytes}
 use Rattle.c_check.specs.Programs.{function_faults, after_external, external_faults, external_twice_faults, externals_faults, seen_after}
-use Rattle.c_check.specs.Seen.{HaveSame}
+use Rattle.c_check.specs.inside.Seen.{HaveSameNames}
 
 abbrev bytes_of : List (Bor (List ℕ)) → List (List ℕ)
 bytes_of names = map (λ name. name.now) names
@@ -41,30 +41,30 @@ kept_or_added name names other true e =
     ∙ sym (list_any-append (bytes_eq name) (bytes_of names) (other.now ∷ []))
 kept_or_added name names other false e = ap (list_any (bytes_eq name)) (map-append (λ (one : Bor (List ℕ)). one.now) names (other ∷ []))
 
-pub inserted : (names : List (Bor (List ℕ))) (other : Bor (List ℕ)) → HaveSame (map (λ name. name.now) (insert_key same_bytes names other)) (map (λ name. name.now) names ++ other.now ∷ [])
+pub inserted : (names : List (Bor (List ℕ))) (other : Bor (List ℕ)) → HaveSameNames (map (λ name. name.now) (insert_key same_bytes names other)) (map (λ name. name.now) names ++ other.now ∷ [])
 inserted names other name = kept_or_added name names other (list_any (same_bytes other) names) refl
 
 -- the faults of what stands in a text rest on which names were declared before
 
-twice_same : (env : Env) (names others : List (List ℕ)) (name : Span) → HaveSame names others → external_twice_faults env.text names name ≡ external_twice_faults env.text others name
+twice_same : (env : Env) (names others : List (List ℕ)) (name : Span) → HaveSameNames names others → external_twice_faults env.text names name ≡ external_twice_faults env.text others name
 twice_same env names others name same =
-    ap (λ there. unless (not (is_some (predefined (token_bytes env.text name)) || there)) name Twice) (same (token_bytes env.text name))
+    ap (λ there. fault_unless (not (is_some (predefined (token_bytes env.text name)) || there)) name Twice) (same (token_bytes env.text name))
 
-external_same : (env : Env) (names others : List (List ℕ)) (external : t.ExternalDeclaration) → HaveSame names others → external_faults env names external ≡ external_faults env others external
+external_same : (env : Env) (names others : List (List ℕ)) (external : t.ExternalDeclaration) → HaveSameNames names others → external_faults env names external ≡ external_faults env others external
 external_same env names others (t.define keyword name value end) same = twice_same env names others name same
 external_same env names others (t.function head opening parts closing) same = ap (λ twice. twice ++ function_faults env head parts) (twice_same env names others head.name same)
 external_same env names others (t.prototype head end) same = refl
 
-added_same : (names others : List (List ℕ)) (name : List ℕ) → HaveSame names others → HaveSame (names ++ name ∷ []) (others ++ name ∷ [])
+added_same : (names others : List (List ℕ)) (name : List ℕ) → HaveSameNames names others → HaveSameNames (names ++ name ∷ []) (others ++ name ∷ [])
 added_same names others name same other =
     list_any-append (bytes_eq other) names (name ∷ []) ∙ ap (λ b. b || list_any (bytes_eq other) (name ∷ [])) (same other) ∙ sym (list_any-append (bytes_eq other) others (name ∷ []))
 
-after_same : (text : List ℕ) (names others : List (List ℕ)) (external : t.ExternalDeclaration) → HaveSame names others → HaveSame (seen_after text names external) (seen_after text others external)
+after_same : (text : List ℕ) (names others : List (List ℕ)) (external : t.ExternalDeclaration) → HaveSameNames names others → HaveSameNames (seen_after text names external) (seen_after text others external)
 after_same text names others (t.define keyword name value end) same = added_same names others (token_bytes text name) same
 after_same text names others (t.function head opening parts closing) same = added_same names others (token_bytes text head.name) same
 after_same text names others (t.prototype head end) same = same
 
-pub externals_same : (env : Env) (names others : List (List ℕ)) (externals : List t.ExternalDeclaration) → HaveSame names others → externals_faults env names externals ≡ externals_faults env others externals
+pub externals_same : (env : Env) (names others : List (List ℕ)) (externals : List t.ExternalDeclaration) → HaveSameNames names others → externals_faults env names externals ≡ externals_faults env others externals
 externals_same env names others [] same = refl
 externals_same env names others (external ∷ externals) same =
     λ j. external_same env names others external same j

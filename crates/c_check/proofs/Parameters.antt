@@ -4,7 +4,7 @@ use Rattle.c_grammar.specs.Tree as t
 use Rattle.c_grammar.specs.declared.statement.ExternalDeclaration.{ExternalDeclaration}
 use Rattle.c_grammar.specs.declared.statement.Head.{Head}
 use Rattle.c_grammar.specs.StmtView.{head_view, external_view}
-use Rattle.c_check_expr.specs.Least.{least_from}
+use Rattle.c_check_expr.specs.Least.{least_fault_from}
 use Rattle.c_check.specs.Programs.{heads_of, text_env, after_parameter, after_parameters, after_external, optional_twice_faults, parameter_faults, parameter_name, parameters_faults, prototype_faults, seen_after, external_faults, externals_faults}
 use Rattle.c_check_expr.specs.Scopes.{Env, Signature}
 use Rattle.c_check_expr.specs.Signatures.{function_entries, signature_of}
@@ -13,18 +13,18 @@ use Rattle.c_check_expr.proofs.Least.{least_from_append}
 use Rattle.c_check_expr.proofs.Lists.{drop_at, drop_got}
 
 pub prototype_next : (env : Env) (main : Bool) (best : Option TypingFault) (all : List t.Parameter) (i : ℕ) (one : t.Parameter) → slice_get all i ≡ Some one
-    → least_from best (prototype_faults env main (drop i all))
-    ≡ least_from (least_from best (parameter_faults env main one)) (prototype_faults env main (drop (i + 1) all))
+    → least_fault_from best (prototype_faults env main (drop i all))
+    ≡ least_fault_from (least_fault_from best (parameter_faults env main one)) (prototype_faults env main (drop (i + 1) all))
 prototype_next env main best all i one e =
-    ap (λ left. least_from best (prototype_faults env main left)) (drop_got all i one e)
+    ap (λ left. least_fault_from best (prototype_faults env main left)) (drop_got all i one e)
     ∙ least_from_append best (parameter_faults env main one) (prototype_faults env main (drop (i + 1) all))
 
 pub parameters_next : (env : Env) (main : Bool) (best : Option TypingFault) (all : List t.Parameter) (i : ℕ) (one : t.Parameter) → slice_get all i ≡ Some one
-    → least_from best (parameters_faults env main (drop i all))
-    ≡ least_from (least_from best (parameter_faults env main one ++ optional_twice_faults env (parameter_name one)))
+    → least_fault_from best (parameters_faults env main (drop i all))
+    ≡ least_fault_from (least_fault_from best (parameter_faults env main one ++ optional_twice_faults env (parameter_name one)))
     (parameters_faults (after_parameter env main one) main (drop (i + 1) all))
 parameters_next env main best all i one e =
-    ap (λ left. least_from best (parameters_faults env main left)) (drop_got all i one e)
+    ap (λ left. least_fault_from best (parameters_faults env main left)) (drop_got all i one e)
     ∙ least_from_append best (parameter_faults env main one ++ optional_twice_faults env (parameter_name one))
     (parameters_faults (after_parameter env main one) main (drop (i + 1) all))
 
@@ -33,11 +33,11 @@ pub after_parameters_next : (env : Env) (main : Bool) (all : List t.Parameter) (
 after_parameters_next env main all i one e = ap (λ left. after_parameters env main left) (drop_got all i one e)
 
 pub externals_next : (env : Env) (seen : List (List ℕ)) (best : Option TypingFault) (externals : List ExternalDeclaration) (i : ℕ) (one : ExternalDeclaration) → i < length externals → one ≡ get_or externals i one
-    → least_from best (externals_faults env seen (map external_view (drop i externals)))
-    ≡ least_from (least_from best (external_faults env seen (external_view one)))
+    → least_fault_from best (externals_faults env seen (map external_view (drop i externals)))
+    ≡ least_fault_from (least_fault_from best (external_faults env seen (external_view one)))
     (externals_faults (after_external env (external_view one)) (seen_after env.text seen (external_view one)) (map external_view (drop (i + 1) externals)))
 externals_next env seen best externals i one h e =
-    ap (λ left. least_from best (externals_faults env seen (map external_view left))) (drop_at externals i one h e)
+    ap (λ left. least_fault_from best (externals_faults env seen (map external_view left))) (drop_at externals i one h e)
     ∙ least_from_append best (external_faults env seen (external_view one))
     (externals_faults (after_external env (external_view one)) (seen_after env.text seen (external_view one)) (map external_view (drop (i + 1) externals)))
 

@@ -7,9 +7,9 @@ use Rattle.c_grammar.specs.declared.terminal.Span.{Span}
 use Rattle.c_grammar.specs.declared.terminal.Symbol.{Symbol}
 use Rattle.c_grammar.specs.declared.terminal.Symbol.TheVariants as w
 use Rattle.c_grammar.specs.Tree as t
-use Rattle.c_names.specs.FormatReading.{pieces_of}
-use Rattle.c_names.specs.Formats.{ints_in}
-use Rattle.c_names.specs.Functions.{accepts, arguments}
+use Rattle.c_names.specs.FormatReading.{format_pieces}
+use Rattle.c_names.specs.Formats.{ints_taken}
+use Rattle.c_names.specs.Functions.{takes_predefined, arguments}
 use Rattle.c_names.specs.declared.function.ArgumentKind.{ArgumentKind}
 use Rattle.c_names.specs.declared.function.ArgumentKind.TheVariants as a
 use Rattle.c_names.specs.declared.function.MpiFunction.{MpiFunction}
@@ -18,7 +18,7 @@ use Rattle.c_names.specs.declared.predefined.Predefined.{Predefined}
 use Rattle.c_names.specs.declared.predefined.Predefined.TheVariants as p
 use Rattle.c_names.specs.declared.kind.VariableKind.{VariableKind}
 use Rattle.c_names.specs.declared.kind.VariableKind.TheVariants.{Int, Status, Request, Communicator}
-use Rattle.c_check_expr.specs.Least.{fault, unless}
+use Rattle.c_check_expr.specs.Least.{fault, fault_unless}
 use Rattle.c_check_expr.specs.Kinds.{first_token, is_same_kind, kind_faults}
 use Rattle.c_check_expr.specs.Signatures.{listed}
 use Rattle.c_check_expr.specs.Scopes.{Env, Signature, token_bytes, meaning, name_faults}
@@ -34,7 +34,7 @@ abbrev pub arguments_listed : Option (t.CommaList t.Argument) → List t.Argumen
 arguments_listed None = []
 arguments_listed (Some arguments) = listed arguments
 
-abbrev pub arguments_of : t.Call → List t.Argument
+abbrev pub arguments_of : t.WrittenCall → List t.Argument
 arguments_of call = arguments_listed call.arguments
 
 abbrev pub argument_first_token : t.Argument → Span
@@ -63,7 +63,7 @@ predefined_of env _ = None
 
 abbrev pub accepts_predefined : ArgumentKind → Option Predefined → Bool
 accepts_predefined kind None = false
-accepts_predefined kind (Some known) = accepts kind known
+accepts_predefined kind (Some known) = takes_predefined kind known
 
 -- a name without a meaning: unknown, or left out
 abbrev pub is_nameless : Meaning → Bool
@@ -72,13 +72,13 @@ is_nameless m.Unknown = true
 is_nameless _ = false
 
 -- main's own parameter
-abbrev pub is_own : ArgumentKind → Meaning → Bool
-is_own a.ArgumentCount (m.Declared d.ArgumentCount) = true
-is_own a.ArgumentTexts (m.Declared d.ArgumentTexts) = true
-is_own _ _ = false
+abbrev pub is_main_parameter : ArgumentKind → Meaning → Bool
+is_main_parameter a.ArgumentCount (m.Declared d.ArgumentCount) = true
+is_main_parameter a.ArgumentTexts (m.Declared d.ArgumentTexts) = true
+is_main_parameter _ _ = false
 
 abbrev pub accepts_own : Env → ArgumentKind → t.Argument → Bool
-accepts_own env kind (t.address mark (t.whole name)) = is_own kind (meaning env name)
+accepts_own env kind (t.address mark (t.whole name)) = is_main_parameter kind (meaning env name)
 accepts_own env kind _ = false
 
 -- an argument that is not what is wanted, whatever a name without a meaning in it means: at its first token
@@ -155,9 +155,9 @@ array_faults env wanted e = name_or_sum_faults env wanted e (name_alone e)
 
 abbrev pub address_faults : Env → VariableKind → Span → t.Place → List TypingFault
 address_faults env wanted mark (t.whole name) =
-    name_faults (meaning env name) name ++ unless (is_nameless (meaning env name) || is_place_of wanted (meaning env name)) mark WrongType
+    name_faults (meaning env name) name ++ fault_unless (is_nameless (meaning env name) || is_place_of wanted (meaning env name)) mark WrongType
 address_faults env wanted mark (t.cell name opening index closing) =
-    (name_faults (meaning env name) name ++ unless (is_nameless (meaning env name) || is_array_of wanted (meaning env name)) mark WrongType)
+    (name_faults (meaning env name) name ++ fault_unless (is_nameless (meaning env name) || is_array_of wanted (meaning env name)) mark WrongType)
     ++ int_faults env index
 
 -- a reference to cells of one kind: `&NAME`, `&NAME[e]`, the name of an array, or such a name `+` an expression
@@ -213,14 +213,14 @@ mpi_takes env f.Init arguments_given = if first_may_be_null env arguments_given 
 mpi_takes env function _ = arguments function
 
 -- what the name of a call takes, or nothing where it is no function
-abbrev pub takes : Env → Meaning → List t.Argument → Option (List ArgumentKind)
-takes env (m.Declared (d.Function number)) given = Some (signature_takes (slice_get env.functions number))
-takes env (m.Known (p.Mpi function)) given = Some (mpi_takes env function given)
-takes env (m.Known p.Fflush) given = Some (a.Output ∷ [])
-takes env _ given = None
+abbrev pub callee_takes : Env → Meaning → List t.Argument → Option (List ArgumentKind)
+callee_takes env (m.Declared (d.Function number)) given = Some (signature_takes (slice_get env.functions number))
+callee_takes env (m.Known (p.Mpi function)) given = Some (mpi_takes env function given)
+callee_takes env (m.Known p.Fflush) given = Some (a.Output ∷ [])
+callee_takes env _ given = None
 
-abbrev pub inside : List ℕ → List ℕ
-inside quoted = drop 1 (take (length quoted - 1) quoted)
+abbrev pub without_quotes : List ℕ → List ℕ
+without_quotes quoted = drop 1 (take (length quoted - 1) quoted)
 
 abbrev pub is_format : ℕ → Option ℕ → Bool
 is_format count None = false
@@ -228,7 +228,7 @@ is_format count (Some ints) = ints == count
 
 -- a text that is no format, or one for another number of ints
 abbrev pub format_faults : Env → Span → ℕ → List TypingFault
-format_faults env at count = unless (is_format count (option_map ints_in (pieces_of (inside (token_bytes env.text at))))) at BadFormat
+format_faults env at count = fault_unless (is_format count (option_map ints_taken (format_pieces (without_quotes (token_bytes env.text at))))) at BadFormat
 
 abbrev pub numbers_faults : Env → List t.Argument → List TypingFault
 numbers_faults env [] = []
@@ -247,9 +247,9 @@ abbrev pub meant_faults : Env → Span → Meaning → List t.Argument → List 
 meant_faults env name m.LeftOut given = fault name LeftOut
 meant_faults env name m.Unknown given = fault name Unknown
 meant_faults env name (m.Known p.Printf) given = print_faults env name given
-meant_faults env name other given = counted_faults env name (takes env other given) given
+meant_faults env name other given = counted_faults env name (callee_takes env other given) given
 
-abbrev pub call_faults : Env → t.Call → List TypingFault
+abbrev pub call_faults : Env → t.WrittenCall → List TypingFault
 call_faults env call = meant_faults env call.name (meaning env call.name) (arguments_of call)
 
 -- ---- right sides

@@ -2,4 +2,4 @@ pub mod Calls
 pub mod CallView
 pub mod Statements
 pub mod Programs
-pub mod Seen
+pub mod inside

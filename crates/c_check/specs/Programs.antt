@@ -8,10 +8,10 @@ use Rattle.c_grammar.specs.declared.terminal.Span.{Span}
 use Rattle.c_grammar.specs.Tree as t
 use Rattle.c_names.specs.Predefined.{predefined}
 use Rattle.c_names.specs.declared.kind.VariableKind.TheVariants.{Int, Communicator}
-use Rattle.c_check_expr.specs.Least.{unless}
-use Rattle.c_check_expr.specs.Literals.{number_at}
+use Rattle.c_check_expr.specs.Least.{fault_unless}
+use Rattle.c_check_expr.specs.Literals.{literal_at}
 use Rattle.c_check_expr.specs.Constants.{length_faults}
-use Rattle.c_check_expr.specs.Signatures.{function_entries, is_int, parameters_listed, signature_of}
+use Rattle.c_check_expr.specs.Signatures.{function_entries, is_int_keyword, parameters_listed, signature_of}
 use Rattle.c_check_expr.specs.Scopes.{Env, token_bytes, declare, opened, twice_faults}
 use Rattle.c_check.specs.Statements.{parts_faults}
 use Rattle.c_check_expr.specs.declared.fault.TypingFault.{TypingFault}
@@ -36,7 +36,7 @@ are_main_parameters (count ∷ texts ∷ []) = is_one_int count && is_text texts
 are_main_parameters _ = false
 
 abbrev pub is_main : List ℕ → t.Head → Bool
-is_main text head = (is_int head.result && bytes_eq (token_bytes text head.name) (codes "main")) && are_main_parameters (parameters_listed head.listed)
+is_main text head = (is_int_keyword head.result && bytes_eq (token_bytes text head.name) (codes "main")) && are_main_parameters (parameters_listed head.listed)
 
 -- ---- heads
 
@@ -65,8 +65,8 @@ optional_length_faults env (Some length) = length_faults env length
 -- a bad length, and a `char` outside main
 abbrev pub parameter_faults : Env → Bool → t.Parameter → List TypingFault
 parameter_faults env main (t.array keyword name opening length closing) = optional_length_faults env length
-parameter_faults env main (t.text_pointers keyword star second name) = unless main keyword LeftOut
-parameter_faults env main (t.text_array keyword star name opening closing) = unless main keyword LeftOut
+parameter_faults env main (t.text_pointers keyword star second name) = fault_unless main keyword LeftOut
+parameter_faults env main (t.text_array keyword star name opening closing) = fault_unless main keyword LeftOut
 parameter_faults env main _ = []
 
 -- a prototype declares nothing
@@ -98,17 +98,17 @@ after_parameters env main (one ∷ others) = after_parameters (after_parameter e
 abbrev pub function_faults : Env → t.Head → t.Parts → List TypingFault
 function_faults env head parts =
     parameters_faults (opened env) (is_main env.text head) (parameters_listed head.listed)
-    ++ parts_faults (after_parameters (opened env) (is_main env.text head) (parameters_listed head.listed)) (is_int head.result) false parts
+    ++ parts_faults (after_parameters (opened env) (is_main env.text head) (parameters_listed head.listed)) (is_int_keyword head.result) false parts
 
 -- ---- the text
 
 -- a name that is predefined, or was declared before in the text
 abbrev pub external_twice_faults : List ℕ → List (List ℕ) → Span → List TypingFault
 external_twice_faults text seen name =
-    unless (not (is_some (predefined (token_bytes text name)) || list_any (bytes_eq (token_bytes text name)) seen)) name Twice
+    fault_unless (not (is_some (predefined (token_bytes text name)) || list_any (bytes_eq (token_bytes text name)) seen)) name Twice
 
 abbrev pub define_value : List ℕ → t.Value → ℤ
-define_value text value = if is_some value.minus then neg_ℤ (pos (number_at text value.number)) else pos (number_at text value.number)
+define_value text value = if is_some value.minus then neg_ℤ (pos (literal_at text value.number)) else pos (literal_at text value.number)
 
 abbrev pub external_faults : Env → List (List ℕ) → t.ExternalDeclaration → List TypingFault
 external_faults env seen (t.define keyword name value end) = external_twice_faults env.text seen name

@@ -7,7 +7,7 @@ use Rattle.c_grammar.specs.declared.terminal.Symbol.TheVariants as w
 use Rattle.c_grammar.specs.Tree as t
 use Rattle.c_names.specs.declared.kind.VariableKind.{VariableKind}
 use Rattle.c_names.specs.declared.kind.VariableKind.TheVariants.{Int, Status}
-use Rattle.c_check_expr.specs.Least.{fault, unless}
+use Rattle.c_check_expr.specs.Least.{fault, fault_unless}
 use Rattle.c_check_expr.specs.Constants.{length_faults, length_of}
 use Rattle.c_check_expr.specs.Kinds.{cell_kind, kind_of_symbol, place_first_token, target_kind}
 use Rattle.c_check_expr.specs.Signatures.{listed}
@@ -46,17 +46,17 @@ lvalue_takes (Of Status) = Nothing
 lvalue_takes (Of kind) = Of kind
 lvalue_takes _ = Nothing
 
-abbrev pub is_assign : Symbol → Bool
-is_assign w.Assign = true
-is_assign _ = false
+abbrev pub is_plain_assign : Symbol → Bool
+is_plain_assign w.Assign = true
+is_plain_assign _ = false
 
 abbrev pub int_lvalue_faults : Env → t.Place → List TypingFault
-int_lvalue_faults env place = place_faults env place ++ unless (is_int_lvalue (lvalue_kind env place)) (place_first_token place) WrongType
+int_lvalue_faults env place = place_faults env place ++ fault_unless (is_int_lvalue (lvalue_kind env place)) (place_first_token place) WrongType
 
 abbrev pub simple_faults : Env → t.Simple → List TypingFault
 simple_faults env (t.assign place operator at right) =
-    if is_assign operator
-    then (place_faults env place ++ unless (is_assignable (lvalue_kind env place)) (place_first_token place) WrongType)
+    if is_plain_assign operator
+    then (place_faults env place ++ fault_unless (is_assignable (lvalue_kind env place)) (place_first_token place) WrongType)
     ++ right_faults env (lvalue_takes (lvalue_kind env place)) right
     else int_lvalue_faults env place ++ right_faults env (Of Int) right
 simple_faults env (t.after place operator at) = int_lvalue_faults env place
@@ -108,13 +108,13 @@ values_faults env (e ∷ es) = int_faults env e ++ values_faults env es
 abbrev pub braces_faults : Span → Entity → ℕ → List TypingFault
 braces_faults name entity count =
     if is_int_array entity
-    then unless (not (nat_lt 0 (array_length entity) && nat_lt (array_length entity) count)) name WrongCount
+    then fault_unless (not (nat_lt 0 (array_length entity) && nat_lt (array_length entity) count)) name WrongCount
     else fault name WrongType
 
 abbrev pub initial_faults : Env → Span → Entity → Option t.Initializer → List TypingFault
 initial_faults env name entity None = []
 initial_faults env name entity (Some (t.begun mark right)) =
-    unless (can_begin (begins_with entity)) name WrongType ++ right_faults env (begun_takes (begins_with entity)) right
+    fault_unless (can_begin (begins_with entity)) name WrongType ++ right_faults env (begun_takes (begins_with entity)) right
 initial_faults env name entity (Some (t.braced mark opening values closing)) =
     braces_faults name entity (length (listed values)) ++ values_faults env (listed values)
 
@@ -127,15 +127,15 @@ abbrev pub items_faults : Env → VariableKind → List t.InitDeclarator → Lis
 items_faults env kind [] = []
 items_faults env kind (item ∷ items) = item_faults env kind item ++ items_faults (after_item env kind item) kind items
 
-abbrev pub after_items : Env → VariableKind → List t.InitDeclarator → Env
-after_items env kind [] = env
-after_items env kind (item ∷ items) = after_items (after_item env kind item) kind items
+abbrev pub after_declarators : Env → VariableKind → List t.InitDeclarator → Env
+after_declarators env kind [] = env
+after_declarators env kind (item ∷ items) = after_declarators (after_item env kind item) kind items
 
 abbrev pub declaration_faults : Env → t.Declaration → List TypingFault
 declaration_faults env one = items_faults env (kind_of_symbol one.kind) (listed one.items)
 
 abbrev pub after_declaration : Env → t.Declaration → Env
-after_declaration env one = after_items env (kind_of_symbol one.kind) (listed one.items)
+after_declaration env one = after_declarators env (kind_of_symbol one.kind) (listed one.items)
 
 -- ---- statements
 
@@ -176,8 +176,8 @@ abbrev mutual
   stmt_faults env gives loops (t.block opening parts closing) = parts_faults (opened env) gives loops parts
   stmt_faults env gives loops (t.empty at) = []
   stmt_faults env gives loops (t.simple simple end) = simple_faults env simple
-  stmt_faults env gives loops (t.break keyword end) = unless loops keyword WrongType
-  stmt_faults env gives loops (t.continue keyword end) = unless loops keyword WrongType
+  stmt_faults env gives loops (t.break keyword end) = fault_unless loops keyword WrongType
+  stmt_faults env gives loops (t.continue keyword end) = fault_unless loops keyword WrongType
   stmt_faults env gives loops (t.return keyword value end) = return_faults env gives value
   stmt_faults env gives loops (t.if_only keyword opening test closing taken) = int_faults env test ++ stmt_faults env gives loops taken
   stmt_faults env gives loops (t.if_else keyword opening test closing taken else_keyword spared) =

@@ -2,10 +2,10 @@
 ghost use Rattle.std.specs.Prelude.{◌≡◌, ◌++◌, ◌||◌, map, option_map};
 ghost use Rattle.c_grammar.specs.StmtView.{argument_view};
 ghost use Rattle.c_grammar.specs.View.{links_from, piece, place_view, view};
-ghost use Rattle.c_check.specs.Calls.{accepts_own, accepts_predefined, address_faults, argument_faults, array_faults, array_sum, is_array_of, is_nameless, is_own, is_place_of, is_plus, may_be_array_of, misfit_faults, name_alone, name_predefined, nameless_address, nameless_of, nameless_or, nameless_value, predefined_meant, predefined_of, reference_faults, sum_base, sum_faults, unaccepted_faults, value_faults};
+ghost use Rattle.c_check.specs.Calls.{accepts_own, accepts_predefined, address_faults, argument_faults, array_faults, array_sum, is_array_of, is_nameless, is_main_parameter, is_place_of, is_plus, may_be_array_of, misfit_faults, name_alone, name_predefined, nameless_address, nameless_of, nameless_or, nameless_value, predefined_meant, predefined_of, reference_faults, sum_base, sum_faults, unaccepted_faults, value_faults};
 ghost use Rattle.c_grammar.specs.Tree as t;
 ghost use Rattle.c_lex.specs.declared.fault.Why.TheVariants.{WrongType};
-ghost use Rattle.c_check_expr.specs.Least.{least_from, unless};
+ghost use Rattle.c_check_expr.specs.Least.{least_fault_from, fault_unless};
 ghost use Rattle.c_check_expr.specs.Scopes.{meaning, name_faults};
 
 use c_check_expr::expression::{check_expr, want_expr, want_int};
@@ -59,7 +59,7 @@ pub fn accepts_predefined(kind: ArgumentKind, word: Option<Predefined>) -> bool
 }
 
 fn is_own(kind: ArgumentKind, meaning: Meaning) -> bool
-    ensures { result ≡ is_own kind meaning }
+    ensures { result ≡ is_main_parameter kind meaning }
 {
     match (kind, meaning) {
         (ArgumentKind::ArgumentCount, Meaning::Declared(Entity::ArgumentCount)) => true,
@@ -84,7 +84,7 @@ fn accepts_own(scope: &Scope, kind: ArgumentKind, argument: &Argument) -> bool
 /// An expression that is not what is wanted.
 #[tactic(auto, using(c_check_expr::proofs::Least::least_from_append))]
 fn misfit_expr(best: &mut Option<TypingFault>, scope: &Scope, e: &Expr)
-    ensures { best.new ≡ least_from best.old (misfit_faults scope.now (t.value (view e.now))) }
+    ensures { best.new ≡ least_fault_from best.old (misfit_faults scope.now (t.value (view e.now))) }
 {
     check_expr(best, scope, e);
     note_at(best, first_token(e), Why::WrongType);
@@ -92,7 +92,7 @@ fn misfit_expr(best: &mut Option<TypingFault>, scope: &Scope, e: &Expr)
 
 /// An argument that is not what is wanted.
 pub fn misfit(best: &mut Option<TypingFault>, scope: &Scope, argument: &Argument)
-    ensures { best.new ≡ least_from best.old (misfit_faults scope.now (argument_view argument.now)) }
+    ensures { best.new ≡ least_fault_from best.old (misfit_faults scope.now (argument_view argument.now)) }
 {
     match argument {
         Argument::Text(at) => note_at(best, *at, Why::WrongType),
@@ -147,7 +147,7 @@ fn misfit_unless_nameless(
     nameless: Option<Span>,
     argument: &Argument,
 )
-    ensures { best.new ≡ least_from best.old (nameless_or scope.now nameless (misfit_faults scope.now (argument_view argument.now))) }
+    ensures { best.new ≡ least_fault_from best.old (nameless_or scope.now nameless (misfit_faults scope.now (argument_view argument.now))) }
 {
     match nameless {
         Some(name) => want_meaning(best, scope.meaning(name), name),
@@ -162,7 +162,7 @@ pub fn want_value(
     wanted: ExprKind,
     argument: &Argument,
 )
-    ensures { best.new ≡ least_from best.old (value_faults scope.now wanted (argument_view argument.now)) }
+    ensures { best.new ≡ least_fault_from best.old (value_faults scope.now wanted (argument_view argument.now)) }
 {
     match argument {
         Argument::Value(e) => want_expr(best, scope, wanted, e),
@@ -279,7 +279,7 @@ fn want_sum(
     e: &Expr,
     sum: Option<(Span, &Expr)>,
 )
-    ensures { best.new ≡ least_from best.old (sum_faults scope.now wanted (view e.now) (option_map (λ sum. (sum.0, view sum.1.now)) sum.entry)) }
+    ensures { best.new ≡ least_fault_from best.old (sum_faults scope.now wanted (view e.now) (option_map (λ sum. (sum.0, view sum.1.now)) sum.entry)) }
 {
     match sum {
         Some((name, operand)) => {
@@ -297,7 +297,7 @@ fn want_sum(
 
 /// The name of an array, or such a name and an operand after `+`.
 fn want_array(best: &mut Option<TypingFault>, scope: &Scope, wanted: VariableKind, e: &Expr)
-    ensures { best.new ≡ least_from best.old (array_faults scope.now wanted (view e.now)) }
+    ensures { best.new ≡ least_fault_from best.old (array_faults scope.now wanted (view e.now)) }
 {
     match name_alone(e) {
         Some(name) => {
@@ -321,7 +321,7 @@ fn want_referred(
     fits: bool,
     mark: Span,
 )
-    ensures { best.new ≡ least_from best.old (name_faults meaning name ++ unless (is_nameless meaning || fits) mark WrongType) }
+    ensures { best.new ≡ least_fault_from best.old (name_faults meaning name ++ fault_unless (is_nameless meaning || fits) mark WrongType) }
 {
     want_meaning(best, meaning, name);
     note_unless(best, is_nameless(meaning) || fits, mark, Why::WrongType);
@@ -335,7 +335,7 @@ fn want_address(
     mark: Span,
     place: &Place,
 )
-    ensures { best.new ≡ least_from best.old (address_faults scope.now wanted mark (place_view place.now)) }
+    ensures { best.new ≡ least_fault_from best.old (address_faults scope.now wanted mark (place_view place.now)) }
 {
     match place {
         Place::Whole(name) => {
@@ -357,7 +357,7 @@ fn want_reference(
     wanted: VariableKind,
     argument: &Argument,
 )
-    ensures { best.new ≡ least_from best.old (reference_faults scope.now wanted (argument_view argument.now)) }
+    ensures { best.new ≡ least_fault_from best.old (reference_faults scope.now wanted (argument_view argument.now)) }
 {
     match argument {
         Argument::Text(at) => note_at(best, *at, Why::WrongType),
@@ -372,7 +372,7 @@ fn want_unaccepted(
     kind: ArgumentKind,
     argument: &Argument,
 )
-    ensures { best.new ≡ least_from best.old (unaccepted_faults scope.now kind (argument_view argument.now)) }
+    ensures { best.new ≡ least_fault_from best.old (unaccepted_faults scope.now kind (argument_view argument.now)) }
 {
     match kind {
         ArgumentKind::Number => want_value(best, scope, ExprKind::Of(VariableKind::Int), argument),
@@ -414,7 +414,7 @@ pub fn check_argument(
     kind: ArgumentKind,
     argument: &Argument,
 )
-    ensures { best.new ≡ least_from best.old (argument_faults scope.now kind (argument_view argument.now)) }
+    ensures { best.new ≡ least_fault_from best.old (argument_faults scope.now kind (argument_view argument.now)) }
 {
     let accepted = accepts_predefined(kind, predefined_of(scope, argument))
         || accepts_own(scope, kind, argument);

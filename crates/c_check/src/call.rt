@@ -1,12 +1,12 @@
 //! The faults of calls and of right sides.
 ghost use Rattle.std.specs.Prelude.{◌≡◌, ◌||◌, length, option_map, slice_get};
 ghost use Rattle.c_grammar.specs.StmtView.{argument_view, call_view, parameter_view, parameters_view, right_view};
-ghost use Rattle.c_check.specs.Calls.{accepts_predefined, arguments_faults, arguments_of, call_faults, counted_faults, first_may_be_null, format_faults, gives_int, inside, may_be_null, mpi_takes, nameless_value, predefined_of, print_faults, result_faults, right_faults, right_first_token, takes};
+ghost use Rattle.c_check.specs.Calls.{accepts_predefined, arguments_faults, arguments_of, call_faults, counted_faults, first_may_be_null, format_faults, gives_int, without_quotes, may_be_null, mpi_takes, nameless_value, predefined_of, print_faults, result_faults, right_faults, right_first_token, callee_takes};
 ghost use Rattle.c_check.specs.CallView.{takes_view};
 ghost use Rattle.c_lex.specs.declared.fault.Why.TheVariants.{WrongType};
-ghost use Rattle.c_check_expr.specs.Least.{least_from};
+ghost use Rattle.c_check_expr.specs.Least.{least_fault_from};
 ghost use Rattle.c_check_expr.specs.Scopes.{meaning};
-ghost use Rattle.c_check_expr.specs.Signatures.{is_int, parameter_takes, parameters_listed};
+ghost use Rattle.c_check_expr.specs.Signatures.{is_int_keyword, parameter_takes, parameters_listed};
 
 use crate::argument::{
     accepts_predefined, check_argument, misfit, nameless_value, predefined_of, want_value,
@@ -17,7 +17,7 @@ use c_check_expr::fault::{TypingFault, note_at, note_unless};
 use c_check_expr::kind::{first_token, want_kind};
 use c_check_expr::meaning::{Entity, ExprKind, Meaning};
 use c_check_expr::scope::{Scope, token_bytes};
-use c_grammar::statement::{Argument, Call, Head, Parameter, Parameters, Right};
+use c_grammar::statement::{Argument, Head, Parameter, Parameters, Right, WrittenCall};
 use c_grammar::terminal::{Span, Symbol};
 use c_lex::Why;
 use c_names::format::count_ints;
@@ -26,7 +26,7 @@ use c_names::kind::VariableKind;
 use c_names::predefined::Predefined;
 
 /// How many arguments a call has.
-pub fn argument_count(call: &Call) -> usize
+pub fn argument_count(call: &WrittenCall) -> usize
     ensures { result ≡ length (arguments_of (call_view call.now)) }
 {
     match &call.arguments {
@@ -36,7 +36,7 @@ pub fn argument_count(call: &Call) -> usize
 }
 
 /// An argument by its index.
-pub fn argument_at(call: &Call, index: usize) -> Option<&Argument>
+pub fn argument_at(call: &WrittenCall, index: usize) -> Option<&Argument>
     ensures { option_map (λ argument. argument_view argument.now) result ≡ slice_get (arguments_of (call_view call.now)) index }
 {
     match &call.arguments {
@@ -116,7 +116,7 @@ fn may_be_null(scope: &Scope, argument: &Argument) -> bool
         || nameless_value(scope, argument).is_some()
 }
 
-fn first_may_be_null(scope: &Scope, call: &Call) -> bool
+fn first_may_be_null(scope: &Scope, call: &WrittenCall) -> bool
     ensures { result ≡ first_may_be_null scope.now (arguments_of (call_view call.now)) }
 {
     match argument_at(call, 0) {
@@ -125,7 +125,7 @@ fn first_may_be_null(scope: &Scope, call: &Call) -> bool
     }
 }
 
-fn mpi_takes(scope: &Scope, function: MpiFunction, call: &Call) -> &'static [ArgumentKind]
+fn mpi_takes(scope: &Scope, function: MpiFunction, call: &WrittenCall) -> &'static [ArgumentKind]
     ensures { result.now ≡ mpi_takes scope.now function (arguments_of (call_view call.now)) }
 {
     if let MpiFunction::Init = function {
@@ -137,8 +137,8 @@ fn mpi_takes(scope: &Scope, function: MpiFunction, call: &Call) -> &'static [Arg
 }
 
 /// What the name of a call takes, or `None` where it is no function.
-pub fn takes_of<'a>(scope: &Scope<'a>, meaning: Meaning, call: &Call) -> Option<Takes<'a>>
-    ensures { option_map takes_view result ≡ takes scope.now meaning (arguments_of (call_view call.now)) }
+pub fn takes_of<'a>(scope: &Scope<'a>, meaning: Meaning, call: &WrittenCall) -> Option<Takes<'a>>
+    ensures { option_map takes_view result ≡ callee_takes scope.now meaning (arguments_of (call_view call.now)) }
 {
     match meaning {
         Meaning::Declared(Entity::Function(number)) => match scope.head(number) {
@@ -153,8 +153,8 @@ pub fn takes_of<'a>(scope: &Scope<'a>, meaning: Meaning, call: &Call) -> Option<
     }
 }
 
-fn check_arguments(best: &mut Option<TypingFault>, scope: &Scope, kinds: Takes, call: &Call)
-    ensures { best.new ≡ least_from best.old (arguments_faults scope.now (takes_view kinds.entry) (arguments_of (call_view call.now))) }
+fn check_arguments(best: &mut Option<TypingFault>, scope: &Scope, kinds: Takes, call: &WrittenCall)
+    ensures { best.new ≡ least_fault_from best.old (arguments_faults scope.now (takes_view kinds.entry) (arguments_of (call_view call.now))) }
 {
     for index in 0..count(kinds) {
         let Some(kind) = kind_at(kinds, index) else {
@@ -167,8 +167,13 @@ fn check_arguments(best: &mut Option<TypingFault>, scope: &Scope, kinds: Takes, 
     }
 }
 
-fn check_counted(best: &mut Option<TypingFault>, scope: &Scope, kinds: Option<Takes>, call: &Call)
-    ensures { best.new ≡ least_from best.old (counted_faults scope.now call.now.name (option_map takes_view kinds.entry) (arguments_of (call_view call.now))) }
+fn check_counted(
+    best: &mut Option<TypingFault>,
+    scope: &Scope,
+    kinds: Option<Takes>,
+    call: &WrittenCall,
+)
+    ensures { best.new ≡ least_fault_from best.old (counted_faults scope.now call.now.name (option_map takes_view kinds.entry) (arguments_of (call_view call.now))) }
 {
     match kinds {
         None => note_at(best, call.name, Why::WrongType),
@@ -184,7 +189,7 @@ fn check_counted(best: &mut Option<TypingFault>, scope: &Scope, kinds: Option<Ta
 
 /// What stands between the marks of a text.
 pub fn inside(quoted: &[u8]) -> &[u8]
-    ensures { result.now ≡ inside quoted.now }
+    ensures { result.now ≡ without_quotes quoted.now }
 {
     if quoted.len() < 2 {
         return &[];
@@ -194,7 +199,7 @@ pub fn inside(quoted: &[u8]) -> &[u8]
 
 /// A format for so many ints.
 fn want_format(best: &mut Option<TypingFault>, scope: &Scope, at: Span, count: usize)
-    ensures { best.new ≡ least_from best.old (format_faults scope.now at count) }
+    ensures { best.new ≡ least_fault_from best.old (format_faults scope.now at count) }
 {
     let well = match count_ints(inside(token_bytes(scope.text(), at))) {
         Some(ints) => ints == count,
@@ -204,8 +209,8 @@ fn want_format(best: &mut Option<TypingFault>, scope: &Scope, at: Span, count: u
 }
 
 /// `printf`: a format and ints.
-fn check_print(best: &mut Option<TypingFault>, scope: &Scope, call: &Call)
-    ensures { best.new ≡ least_from best.old (print_faults scope.now call.now.name (arguments_of (call_view call.now))) }
+fn check_print(best: &mut Option<TypingFault>, scope: &Scope, call: &WrittenCall)
+    ensures { best.new ≡ least_fault_from best.old (print_faults scope.now call.now.name (arguments_of (call_view call.now))) }
 {
     let Some(first) = argument_at(call, 0) else {
         note_at(best, call.name, Why::WrongCount);
@@ -227,8 +232,8 @@ fn check_print(best: &mut Option<TypingFault>, scope: &Scope, call: &Call)
 }
 
 /// The faults of a call.
-pub fn check_call(best: &mut Option<TypingFault>, scope: &Scope, call: &Call)
-    ensures { best.new ≡ least_from best.old (call_faults scope.now (call_view call.now)) }
+pub fn check_call(best: &mut Option<TypingFault>, scope: &Scope, call: &WrittenCall)
+    ensures { best.new ≡ least_fault_from best.old (call_faults scope.now (call_view call.now)) }
 {
     let meaning = scope.meaning(call.name);
     match meaning {
@@ -242,7 +247,7 @@ pub fn check_call(best: &mut Option<TypingFault>, scope: &Scope, call: &Call)
 // ---- right sides
 
 pub fn is_int(symbol: Symbol) -> bool
-    ensures { result ≡ is_int symbol }
+    ensures { result ≡ is_int_keyword symbol }
 {
     match symbol {
         Symbol::Int => true,
@@ -268,7 +273,7 @@ fn want_result(
     meaning: Meaning,
     name: Span,
 )
-    ensures { best.new ≡ least_from best.old (result_faults scope.now wanted meaning name) }
+    ensures { best.new ≡ least_fault_from best.old (result_faults scope.now wanted meaning name) }
 {
     match meaning {
         Meaning::Declared(Entity::Function(number)) => {
@@ -287,7 +292,7 @@ fn want_result(
 
 /// A right side of a kind is wanted.
 pub fn want_right(best: &mut Option<TypingFault>, scope: &Scope, wanted: ExprKind, right: &Right)
-    ensures { best.new ≡ least_from best.old (right_faults scope.now wanted (right_view right.now)) }
+    ensures { best.new ≡ least_fault_from best.old (right_faults scope.now wanted (right_view right.now)) }
 {
     match right {
         Right::Call(call) => {

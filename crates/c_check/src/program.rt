@@ -2,14 +2,14 @@
 ghost use Rattle.std.specs.Prelude.{◌≡◌, ◌≤◌, ◌++◌, ◌∷◌, [], IfOk, MatchOption, OnOk, length, map};
 ghost use Rattle.std.specs.List.{list_any};
 ghost use Rattle.c_grammar.specs.StmtView.{head_view, parameter_view, parameters_view, parts_view, external_view, tree_view, value_view};
-ghost use Rattle.c_check_expr.specs.Least.{IsFirst, least_from};
+ghost use Rattle.c_check_expr.specs.Least.{IsLeastFault, least_fault_from};
 ghost use Rattle.c_lex.specs.declared.limits.TheConstants.{MOST_BYTES};
 ghost use Rattle.c_check.specs.Programs.{after_parameter, after_parameters, after_external, are_main_parameters, declare_optional, define_value, faults, function_faults, heads_of, is_main, is_one_int, is_text, main_faults, optional_twice_faults, parameter_faults, parameter_name, parameter_entity, parameters_faults, prototype_faults, seen_after, text_env, external_faults, external_twice_faults, externals_faults, with_head};
-ghost use Rattle.c_check.specs.Seen.{HaveSame};
+ghost use Rattle.c_check.specs.inside.Seen.{HaveSameNames};
 ghost use Rattle.c_check_expr.specs.Signatures.{parameters_listed};
 
 use crate::call::{is_int, parameter_at, parameter_count};
-use crate::seen::Seen;
+use crate::seen::SeenNames;
 use crate::statement::check_parts;
 use c_check_expr::constant::want_length;
 use c_check_expr::fault::{TypingFault, note, note_unless};
@@ -101,7 +101,7 @@ pub fn parameter_name(parameter: &Parameter) -> Option<Span>
 
 /// A bad length, and a `char` outside main.
 fn check_parameter(best: &mut Option<TypingFault>, scope: &Scope, main: bool, parameter: &Parameter)
-    ensures { best.new ≡ least_from best.old (parameter_faults scope.now main (parameter_view parameter.now)) }
+    ensures { best.new ≡ least_fault_from best.old (parameter_faults scope.now main (parameter_view parameter.now)) }
 {
     match parameter {
         Parameter::Array { length, .. } => {
@@ -117,7 +117,7 @@ fn check_parameter(best: &mut Option<TypingFault>, scope: &Scope, main: bool, pa
 
 /// A prototype declares nothing.
 fn check_prototype(best: &mut Option<TypingFault>, scope: &Scope, main: bool, head: &Head)
-    ensures { best.new ≡ least_from best.old (prototype_faults scope.now main (parameters_listed (parameters_view head.now.parameters))) }
+    ensures { best.new ≡ least_fault_from best.old (prototype_faults scope.now main (parameters_listed (parameters_view head.now.parameters))) }
 {
     for index in 0..parameter_count(head) {
         let Some(parameter) = parameter_at(head, index) else {
@@ -128,7 +128,7 @@ fn check_prototype(best: &mut Option<TypingFault>, scope: &Scope, main: bool, he
 }
 
 fn want_free(best: &mut Option<TypingFault>, scope: &Scope, name: Option<Span>)
-    ensures { best.new ≡ least_from best.old (optional_twice_faults scope.now name) }
+    ensures { best.new ≡ least_fault_from best.old (optional_twice_faults scope.now name) }
 {
     if let Some(name) = name {
         scope.want_free(best, name);
@@ -152,7 +152,7 @@ fn check_declared(
     main: bool,
     parameter: &Parameter,
 ) -> Result<(), AllocError>
-    ensures faults { OnOk result (best.new ≡ least_from best.old (parameter_faults scope.old main (parameter_view parameter.now) ++ optional_twice_faults scope.old (parameter_name (parameter_view parameter.now)))) }
+    ensures faults { OnOk result (best.new ≡ least_fault_from best.old (parameter_faults scope.old main (parameter_view parameter.now) ++ optional_twice_faults scope.old (parameter_name (parameter_view parameter.now)))) }
     ensures scope { OnOk result (scope.new ≡ after_parameter scope.old main (parameter_view parameter.now)) }
 {
     check_parameter(best, scope, main, parameter);
@@ -167,7 +167,7 @@ fn check_parameters(
     main: bool,
     head: &Head,
 ) -> Result<(), AllocError>
-    ensures faults { OnOk result (best.new ≡ least_from best.old (parameters_faults scope.old main (parameters_listed (parameters_view head.now.parameters)))) }
+    ensures faults { OnOk result (best.new ≡ least_fault_from best.old (parameters_faults scope.old main (parameters_listed (parameters_view head.now.parameters)))) }
     ensures scope { OnOk result (scope.new ≡ after_parameters scope.old main (parameters_listed (parameters_view head.now.parameters))) }
 {
     for index in 0..parameter_count(head) {
@@ -187,7 +187,7 @@ fn check_function(
     head: &Head,
     parts: &[Part],
 ) -> Result<(), AllocError>
-    ensures faults { OnOk result (best.new ≡ least_from best.old (function_faults scope.old (head_view head.now) (parts_view parts.now))) }
+    ensures faults { OnOk result (best.new ≡ least_fault_from best.old (function_faults scope.old (head_view head.now) (parts_view parts.now))) }
     ensures scope { OnOk result (scope.new ≡ scope.old) }
 {
     let main = is_main(scope.text(), head);
@@ -201,8 +201,8 @@ fn check_function(
 // ---- the text
 
 /// A name that is free in the text.
-fn want_new(best: &mut Option<TypingFault>, text: &[u8], seen: &Seen, span: Span)
-    ensures { best.new ≡ least_from best.old (external_twice_faults text.now seen.now span) }
+fn want_new(best: &mut Option<TypingFault>, text: &[u8], seen: &SeenNames, span: Span)
+    ensures { best.new ≡ least_fault_from best.old (external_twice_faults text.now seen.now span) }
 {
     let name = token_bytes(text, span);
     let taken = meaning_of(name).is_some() || seen.has(name);
@@ -226,12 +226,12 @@ pub fn define_value(text: &[u8], value: &Value) -> i32
 fn check_external<'a>(
     best: &mut Option<TypingFault>,
     scope: &mut Scope<'a>,
-    seen: &mut Seen<'a>,
+    seen: &mut SeenNames<'a>,
     external: &ExternalDeclaration,
 ) -> Result<(), AllocError>
-    ensures faults { OnOk result (best.new ≡ least_from best.old (external_faults scope.old seen.old (external_view external.now))) }
+    ensures faults { OnOk result (best.new ≡ least_fault_from best.old (external_faults scope.old seen.old (external_view external.now))) }
     ensures scope { OnOk result (scope.new ≡ after_external scope.old (external_view external.now)) }
-    ensures seen { OnOk result (HaveSame seen.new (seen_after scope.old.text seen.old (external_view external.now))) }
+    ensures seen { OnOk result (HaveSameNames seen.new (seen_after scope.old.text seen.old (external_view external.now))) }
 {
     let text = scope.text();
     match external {
@@ -313,7 +313,7 @@ fn has_main(text: &[u8], externals: &[ExternalDeclaration]) -> bool
 /// A text without a main.
 fn want_main(best: &mut Option<TypingFault>, text: &[u8], tree: &Tree)
     requires { length text.now ≤ MOST_BYTES }
-    ensures { best.new ≡ least_from best.old (main_faults text.now (tree_view tree.now)) }
+    ensures { best.new ≡ least_fault_from best.old (main_faults text.now (tree_view tree.now)) }
 {
     if !has_main(text, &tree.externals) {
         note(
@@ -332,9 +332,9 @@ fn check_externals<'a>(
     scope: &mut Scope<'a>,
     externals: &[ExternalDeclaration],
 ) -> Result<(), AllocError>
-    ensures { OnOk result (best.new ≡ least_from best.old (externals_faults scope.old [] (map external_view externals.now))) }
+    ensures { OnOk result (best.new ≡ least_fault_from best.old (externals_faults scope.old [] (map external_view externals.now))) }
 {
-    let mut seen = Seen::new(alloc);
+    let mut seen = SeenNames::new(alloc);
     for external in externals {
         check_external(best, scope, &mut seen, external)?;
     }
@@ -349,7 +349,7 @@ pub fn first_fault(
     tree: &Tree,
 ) -> Result<Option<TypingFault>, AllocError>
     requires { length text.now ≤ MOST_BYTES }
-    ensures { IfOk result (λ first. MatchOption first (faults text.now (tree_view tree.now) ≡ []) (λ found. IsFirst (faults text.now (tree_view tree.now)) found)) }
+    ensures { IfOk result (λ first. MatchOption first (faults text.now (tree_view tree.now) ≡ []) (λ found. IsLeastFault (faults text.now (tree_view tree.now)) found)) }
 {
     let mut best = None;
     let mut scope = text_scope(alloc, text, tree)?;

@@ -2,7 +2,7 @@
 ghost use Rattle.std.specs.Prelude.{◌≡◌, ◌++◌, ◌∷◌, [], OnOk};
 ghost use Rattle.std.specs.List.{list_any};
 ghost use Rattle.std.specs.Str.{bytes_eq};
-ghost use Rattle.c_check.specs.Seen.{HaveSame};
+ghost use Rattle.c_check.specs.inside.Seen.{HaveSameNames};
 
 use indexmap::IndexSet;
 use std::alloc::{AllocError, Global};
@@ -10,11 +10,11 @@ use std::marker::Model;
 
 /// The names that the text has declared, each once.
 #[derive(Drop)]
-pub struct Seen<'a> {
+pub struct SeenNames<'a> {
     names: IndexSet<&'a [u8]>,
 }
 
-impl<'a> Model for Seen<'a> {
+impl<'a> Model for SeenNames<'a> {
     ghost use Rattle.std.specs.Prelude.{List, map, ℕ};
 
     ghost Value = { List (List ℕ) };
@@ -22,12 +22,12 @@ impl<'a> Model for Seen<'a> {
     ghost view = { λ s. map (λ name. name.now) s.names.keys };
 }
 
-impl<'a> Seen<'a> {
+impl<'a> SeenNames<'a> {
     /// No names.
     pub fn new(alloc: Global) -> Self
         ensures { result ≡ [] }
     {
-        Seen {
+        SeenNames {
             names: IndexSet::new(alloc),
         }
     }
@@ -41,7 +41,7 @@ impl<'a> Seen<'a> {
 
     /// Adds a name.
     pub fn add(&mut self, name: &'a [u8]) -> Result<(), AllocError>
-        ensures { OnOk result (HaveSame self.new (self.old ++ name.now ∷ [])) }
+        ensures { OnOk result (HaveSameNames self.new (self.old ++ name.now ∷ [])) }
     {
         self.names.insert(name)?;
         Ok(())

@@ -4,10 +4,10 @@ ghost use Rattle.c_grammar.specs.StmtView.{declaration_view, initial_view, item_
 ghost use Rattle.c_grammar.specs.View.{place_view, view};
 ghost use Rattle.c_lex.specs.declared.fault.Why.TheVariants.{WrongType};
 ghost use Rattle.c_check_expr.specs.Expressions.{int_faults};
-ghost use Rattle.c_check_expr.specs.Least.{least_from, unless};
+ghost use Rattle.c_check_expr.specs.Least.{least_fault_from, fault_unless};
 ghost use Rattle.c_check_expr.specs.Scopes.{opened};
 ghost use Rattle.c_check_expr.specs.Signatures.{listed};
-ghost use Rattle.c_check.specs.Statements.{after_declaration, after_item, after_part, after_parts, after_start, array_length, begins_with, begun_takes, braces_faults, can_begin, declaration_faults, declared_entity, lvalue_kind, lvalue_takes, initial_faults, int_lvalue_faults, is_assign, is_assignable, is_int_array, is_int_lvalue, item_faults, part_faults, parts_faults, place_length_faults, return_faults, simple_faults, start_faults, step_faults, stmt_faults, test_faults, values_faults};
+ghost use Rattle.c_check.specs.Statements.{after_declaration, after_item, after_part, after_parts, after_start, array_length, begins_with, begun_takes, braces_faults, can_begin, declaration_faults, declared_entity, lvalue_kind, lvalue_takes, initial_faults, int_lvalue_faults, is_plain_assign, is_assignable, is_int_array, is_int_lvalue, item_faults, part_faults, parts_faults, place_length_faults, return_faults, simple_faults, start_faults, step_faults, stmt_faults, test_faults, values_faults};
 
 use crate::call::{check_call, right_first_token, want_right};
 use c_check_expr::comma_list::item_count;
@@ -71,7 +71,7 @@ fn lvalue_takes(kind: ExprKind) -> ExprKind
 }
 
 pub fn is_assign(symbol: Symbol) -> bool
-    ensures { result ≡ is_assign symbol }
+    ensures { result ≡ is_plain_assign symbol }
 {
     match symbol {
         Symbol::Assign => true,
@@ -82,7 +82,7 @@ pub fn is_assign(symbol: Symbol) -> bool
 /// A place of an int.
 #[tactic(auto, using(c_check_expr::proofs::Least::least_from_append))]
 fn want_int_lvalue(best: &mut Option<TypingFault>, scope: &Scope, place: &Place)
-    ensures { best.new ≡ least_from best.old (int_lvalue_faults scope.now (place_view place.now)) }
+    ensures { best.new ≡ least_fault_from best.old (int_lvalue_faults scope.now (place_view place.now)) }
 {
     check_place(best, scope, place);
     let well = is_int_lvalue(lvalue_kind(scope, place));
@@ -92,7 +92,7 @@ fn want_int_lvalue(best: &mut Option<TypingFault>, scope: &Scope, place: &Place)
 /// The faults of an assignment or a call.
 #[tactic(auto, using(c_check_expr::proofs::Least::least_from_append))]
 pub fn check_simple(best: &mut Option<TypingFault>, scope: &Scope, simple: &Simple)
-    ensures { best.new ≡ least_from best.old (simple_faults scope.now (simple_view simple.now)) }
+    ensures { best.new ≡ least_fault_from best.old (simple_faults scope.now (simple_view simple.now)) }
 {
     match simple {
         Simple::Assign {
@@ -136,7 +136,7 @@ pub fn declared_entity(scope: &Scope, kind: VariableKind, place: &Place) -> Enti
 
 #[tactic(auto, using(c_grammar::proofs::Viewed::views))]
 fn want_place_length(best: &mut Option<TypingFault>, scope: &Scope, place: &Place)
-    ensures { best.new ≡ least_from best.old (place_length_faults scope.now (place_view place.now)) }
+    ensures { best.new ≡ least_fault_from best.old (place_length_faults scope.now (place_view place.now)) }
 {
     match place {
         Place::Whole(_) => {}
@@ -193,7 +193,7 @@ fn array_length(entity: Entity) -> u32
 /// Ints in braces.
 #[tactic(auto, using(c_check_expr::proofs::Least::least_from_append))]
 fn want_values(best: &mut Option<TypingFault>, scope: &Scope, values: &CommaList<Expr>)
-    ensures { best.new ≡ least_from best.old (values_faults scope.now (listed (comma_list_view view values.now))) }
+    ensures { best.new ≡ least_fault_from best.old (values_faults scope.now (listed (comma_list_view view values.now))) }
 {
     want_int(best, scope, &values.first);
     for behind in &values.more {
@@ -203,7 +203,7 @@ fn want_values(best: &mut Option<TypingFault>, scope: &Scope, values: &CommaList
 
 /// Values in braces.
 fn want_braces(best: &mut Option<TypingFault>, name: Span, entity: Entity, count: usize)
-    ensures { best.new ≡ least_from best.old (braces_faults name entity count) }
+    ensures { best.new ≡ least_fault_from best.old (braces_faults name entity count) }
 {
     if is_int_array(entity) {
         let length = array_length(entity) as usize;
@@ -221,7 +221,7 @@ fn check_initial(
     entity: Entity,
     initial: &Option<Initializer>,
 )
-    ensures { best.new ≡ least_from best.old (initial_faults scope.now name entity (option_map initial_view initial.now)) }
+    ensures { best.new ≡ least_fault_from best.old (initial_faults scope.now name entity (option_map initial_view initial.now)) }
 {
     match initial {
         None => {}
@@ -245,7 +245,7 @@ fn check_item(
     kind: VariableKind,
     item: &InitDeclarator,
 ) -> Result<(), AllocError>
-    ensures faults { OnOk result (best.new ≡ least_from best.old (item_faults scope.old kind (item_view item.now))) }
+    ensures faults { OnOk result (best.new ≡ least_fault_from best.old (item_faults scope.old kind (item_view item.now))) }
     ensures scope { OnOk result (scope.new ≡ after_item scope.old kind (item_view item.now)) }
 {
     let name = place_first_token(&item.place);
@@ -264,7 +264,7 @@ pub fn check_declaration(
     scope: &mut Scope,
     declaration: &Declaration,
 ) -> Result<(), AllocError>
-    ensures faults { OnOk result (best.new ≡ least_from best.old (declaration_faults scope.old (declaration_view declaration.now))) }
+    ensures faults { OnOk result (best.new ≡ least_fault_from best.old (declaration_faults scope.old (declaration_view declaration.now))) }
     ensures scope { OnOk result (scope.new ≡ after_declaration scope.old (declaration_view declaration.now)) }
 {
     let kind = kind_of_symbol(declaration.kind);
@@ -280,7 +280,7 @@ pub fn check_declaration(
 /// What a function gives back.
 #[tactic(auto, using(c_check_expr::proofs::Least::least_from_append))]
 fn check_return(best: &mut Option<TypingFault>, scope: &Scope, gives: bool, value: &Option<Right>)
-    ensures { best.new ≡ least_from best.old (return_faults scope.now gives (option_map right_view value.now)) }
+    ensures { best.new ≡ least_fault_from best.old (return_faults scope.now gives (option_map right_view value.now)) }
 {
     if let Some(right) = value {
         if gives {
@@ -294,7 +294,7 @@ fn check_return(best: &mut Option<TypingFault>, scope: &Scope, gives: bool, valu
 
 /// A keyword that stands in loops alone.
 fn want_loop(best: &mut Option<TypingFault>, loops: bool, keyword: Span)
-    ensures { best.new ≡ least_from best.old (unless loops keyword WrongType) }
+    ensures { best.new ≡ least_fault_from best.old (fault_unless loops keyword WrongType) }
 {
     note_unless(best, loops, keyword, Why::WrongType);
 }
@@ -304,7 +304,7 @@ fn check_start(
     scope: &mut Scope,
     start: &ForStart,
 ) -> Result<(), AllocError>
-    ensures faults { OnOk result (best.new ≡ least_from best.old (start_faults scope.old (start_view start.now))) }
+    ensures faults { OnOk result (best.new ≡ least_fault_from best.old (start_faults scope.old (start_view start.now))) }
     ensures scope { OnOk result (scope.new ≡ after_start scope.old (start_view start.now)) }
 {
     match start {
@@ -318,7 +318,7 @@ fn check_start(
 }
 
 fn check_test(best: &mut Option<TypingFault>, scope: &Scope, test: &Option<Expr>)
-    ensures { best.new ≡ least_from best.old (test_faults scope.now (option_map view test.now)) }
+    ensures { best.new ≡ least_fault_from best.old (test_faults scope.now (option_map view test.now)) }
 {
     if let Some(test) = test {
         want_int(best, scope, test);
@@ -326,7 +326,7 @@ fn check_test(best: &mut Option<TypingFault>, scope: &Scope, test: &Option<Expr>
 }
 
 fn check_step(best: &mut Option<TypingFault>, scope: &Scope, step: &Option<Simple>)
-    ensures { best.new ≡ least_from best.old (step_faults scope.now (option_map simple_view step.now)) }
+    ensures { best.new ≡ least_fault_from best.old (step_faults scope.now (option_map simple_view step.now)) }
 {
     if let Some(step) = step {
         check_simple(best, scope, step);
@@ -342,7 +342,7 @@ pub fn check_stmt(
     loops: bool,
     stmt: &Stmt,
 ) -> Result<(), AllocError>
-    ensures faults { OnOk result (best.new ≡ least_from best.old (stmt_faults scope.old gives loops (stmt_view stmt.now))) }
+    ensures faults { OnOk result (best.new ≡ least_fault_from best.old (stmt_faults scope.old gives loops (stmt_view stmt.now))) }
     ensures scope { OnOk result (scope.new ≡ scope.old) }
 {
     match stmt {
@@ -392,7 +392,7 @@ fn check_block(
     loops: bool,
     parts: &[Part],
 ) -> Result<(), AllocError>
-    ensures faults { OnOk result (best.new ≡ least_from best.old (parts_faults (opened scope.old) gives loops (parts_view parts.now))) }
+    ensures faults { OnOk result (best.new ≡ least_fault_from best.old (parts_faults (opened scope.old) gives loops (parts_view parts.now))) }
     ensures scope { OnOk result (scope.new ≡ scope.old) }
 {
     scope.open()?;
@@ -411,7 +411,7 @@ fn check_tested(
     test: &Expr,
     body: &Stmt,
 ) -> Result<(), AllocError>
-    ensures faults { OnOk result (best.new ≡ least_from best.old (int_faults scope.old (view test.now) ++ stmt_faults scope.old gives loops (stmt_view body.now))) }
+    ensures faults { OnOk result (best.new ≡ least_fault_from best.old (int_faults scope.old (view test.now) ++ stmt_faults scope.old gives loops (stmt_view body.now))) }
     ensures scope { OnOk result (scope.new ≡ scope.old) }
 {
     want_int(best, scope, test);
@@ -430,7 +430,7 @@ fn check_both(
     then: &Stmt,
     other: &Stmt,
 ) -> Result<(), AllocError>
-    ensures faults { OnOk result (best.new ≡ least_from best.old ((int_faults scope.old (view test.now) ++ stmt_faults scope.old gives loops (stmt_view then.now)) ++ stmt_faults scope.old gives loops (stmt_view other.now))) }
+    ensures faults { OnOk result (best.new ≡ least_fault_from best.old ((int_faults scope.old (view test.now) ++ stmt_faults scope.old gives loops (stmt_view then.now)) ++ stmt_faults scope.old gives loops (stmt_view other.now))) }
     ensures scope { OnOk result (scope.new ≡ scope.old) }
 {
     check_tested(best, scope, gives, loops, test, then)?;
@@ -447,7 +447,7 @@ fn check_do(
     test: &Expr,
     body: &Stmt,
 ) -> Result<(), AllocError>
-    ensures faults { OnOk result (best.new ≡ least_from best.old (stmt_faults scope.old gives true (stmt_view body.now) ++ int_faults scope.old (view test.now))) }
+    ensures faults { OnOk result (best.new ≡ least_fault_from best.old (stmt_faults scope.old gives true (stmt_view body.now) ++ int_faults scope.old (view test.now))) }
     ensures scope { OnOk result (scope.new ≡ scope.old) }
 {
     check_stmt(best, scope, gives, true, body)?;
@@ -466,7 +466,7 @@ fn check_for(
     step: &Option<Simple>,
     body: &Stmt,
 ) -> Result<(), AllocError>
-    ensures faults { OnOk result (best.new ≡ least_from best.old (((start_faults (opened scope.old) (start_view start.now) ++ test_faults (after_start (opened scope.old) (start_view start.now)) (option_map view test.now)) ++ step_faults (after_start (opened scope.old) (start_view start.now)) (option_map simple_view step.now)) ++ stmt_faults (after_start (opened scope.old) (start_view start.now)) gives true (stmt_view body.now))) }
+    ensures faults { OnOk result (best.new ≡ least_fault_from best.old (((start_faults (opened scope.old) (start_view start.now) ++ test_faults (after_start (opened scope.old) (start_view start.now)) (option_map view test.now)) ++ step_faults (after_start (opened scope.old) (start_view start.now)) (option_map simple_view step.now)) ++ stmt_faults (after_start (opened scope.old) (start_view start.now)) gives true (stmt_view body.now))) }
     ensures scope { OnOk result (scope.new ≡ scope.old) }
 {
     scope.open()?;
@@ -486,7 +486,7 @@ fn check_part(
     loops: bool,
     part: &Part,
 ) -> Result<(), AllocError>
-    ensures faults { OnOk result (best.new ≡ least_from best.old (part_faults scope.old gives loops (part_view part.now))) }
+    ensures faults { OnOk result (best.new ≡ least_fault_from best.old (part_faults scope.old gives loops (part_view part.now))) }
     ensures scope { OnOk result (scope.new ≡ after_part scope.old (part_view part.now)) }
 {
     match part {
@@ -503,7 +503,7 @@ pub fn check_parts(
     loops: bool,
     parts: &[Part],
 ) -> Result<(), AllocError>
-    ensures faults { OnOk result (best.new ≡ least_from best.old (parts_faults scope.old gives loops (parts_view parts.now))) }
+    ensures faults { OnOk result (best.new ≡ least_fault_from best.old (parts_faults scope.old gives loops (parts_view parts.now))) }
     ensures scope { OnOk result (scope.new ≡ after_parts scope.old (parts_view parts.now)) }
 {
     for part in parts {

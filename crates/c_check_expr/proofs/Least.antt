@@ -5,9 +5,9 @@ use Rattle.c_lex.specs.declared.fault.Why.{Why}
 use Rattle.c_lex.specs.declared.fault.Why.TheVariants as w
 use Rattle.mpi_call.specs.Lists.{IsIn}
 use Rattle.c_check_expr.specs.declared.fault.TypingFault.{TypingFault}
-use Rattle.c_check_expr.specs.Least.{IsFirst, is_less, least_from, reason_order, take_less}
+use Rattle.c_check_expr.specs.Least.{IsLeastFault, is_less, least_fault_from, reason_order, take_less}
 
-pub least_from_append : (b : Option TypingFault) (xs ys : List TypingFault) → least_from b (xs ++ ys) ≡ least_from (least_from b xs) ys
+pub least_from_append : (b : Option TypingFault) (xs ys : List TypingFault) → least_fault_from b (xs ++ ys) ≡ least_fault_from (least_fault_from b xs) ys
 least_from_append b [] ys = refl
 least_from_append b (x ∷ xs) ys = least_from_append (take_less b x) xs ys
 
@@ -25,7 +25,7 @@ itself : (g : TypingFault) → is_less g g ≡ false
 itself g = grind (arith, nat_tests)
 
 pub record Least (g : TypingFault) (fs : List TypingFault) (f : TypingFault) : Type 0 where
-  pub is : least_from (Some g) fs ≡ Some f
+  pub is : least_fault_from (Some g) fs ≡ Some f
   pub one : (g ≡ f) ⊎ IsIn f fs
   pub start : is_less g f ≡ false
   pub first : (h : TypingFault) → IsIn h fs → is_less h f ≡ false
@@ -60,15 +60,15 @@ least g (x ∷ fs) =
     either x fs f l h (inl q) = subst (λ z. is_less z f ≡ false) q l.start
     either x fs f l h (inr q) = l.first h q
 
-pub first_of : (fs : List TypingFault) (o : Option TypingFault) → o ≡ least_from None fs → MatchOption o (fs ≡ []) (λ f. IsFirst fs f)
-first_of [] o e = let nothing : List TypingFault = [] in subst (λ z. MatchOption z (nothing ≡ []) (λ f. IsFirst nothing f)) (sym e) (refl {a = nothing})
+pub first_of : (fs : List TypingFault) (o : Option TypingFault) → o ≡ least_fault_from None fs → MatchOption o (fs ≡ []) (λ f. IsLeastFault fs f)
+first_of [] o e = let nothing : List TypingFault = [] in subst (λ z. MatchOption z (nothing ≡ []) (λ f. IsLeastFault nothing f)) (sym e) (refl {a = nothing})
 first_of (x ∷ fs) o e =
     let k = least x fs in let l = k.1 in
-    subst (λ z. MatchOption z (x ∷ fs ≡ []) (λ f. IsFirst (x ∷ fs) f)) (sym (e ∙ l.is))
+    subst (λ z. MatchOption z (x ∷ fs ≡ []) (λ f. IsLeastFault (x ∷ fs) f)) (sym (e ∙ l.is))
     (record { one = l.one; first = λ h i. elim i [ inl q ↦ subst (λ z. is_less z k.0 ≡ false) q l.start | inr q ↦ l.first h q ] })
 
 -- faults have a first one, unless there are none
-pub none_or_first : (fs : List TypingFault) → (fs ≡ []) ⊎ ((f : TypingFault) × IsFirst fs f)
+pub none_or_first : (fs : List TypingFault) → (fs ≡ []) ⊎ ((f : TypingFault) × IsLeastFault fs f)
 none_or_first [] = inl refl
 none_or_first (x ∷ fs) =
     let k = least x fs in let l = k.1 in
@@ -77,7 +77,7 @@ none_or_first (x ∷ fs) =
       record { one = l.one; first = λ h i. elim i [ inl q ↦ subst (λ z. is_less z k.0 ≡ false) q l.start | inr q ↦ l.first h q ] },
     )
 
-pub first_in_none : (fs : List TypingFault) (f : TypingFault) → fs ≡ [] → IsFirst fs f → ⊥
+pub first_in_none : (fs : List TypingFault) (f : TypingFault) → fs ≡ [] → IsLeastFault fs f → ⊥
 first_in_none [] f e h = h.one
 first_in_none (g ∷ gs) f e h = cc e
 
@@ -118,5 +118,5 @@ one_fault a b h k =
     let fault_of : ℕ → Why → TypingFault = λ at one. record { at = at; why = one } in
     ap (λ at. fault_of at a.why) (same_place a b h k) ∙ ap (fault_of b.at) why
 
-pub first_one : (fs : List TypingFault) (a b : TypingFault) → IsFirst fs a → IsFirst fs b → a ≡ b
+pub first_one : (fs : List TypingFault) (a b : TypingFault) → IsLeastFault fs a → IsLeastFault fs b → a ≡ b
 first_one fs a b g h = one_fault a b (h.first a g.one) (g.first b h.one)

@@ -14,7 +14,7 @@ use Rattle.c_names.specs.declared.operator.UnaryOperator.TheVariants as s
 use Rattle.c_names.specs.declared.predefined.Predefined.TheVariants as p
 use Rattle.c_check_expr.specs.Least.{fault}
 use Rattle.c_check_expr.specs.Kinds.{first_token}
-use Rattle.c_check_expr.specs.Literals.{number_at}
+use Rattle.c_check_expr.specs.Literals.{literal_at}
 use Rattle.c_check_expr.specs.Scopes.{Env, meaning, name_faults}
 use Rattle.c_check_expr.specs.declared.fault.TypingFault.{TypingFault}
 use Rattle.c_check_expr.specs.declared.constant.TheConstants.{MOST_ELEMENTS}
@@ -82,8 +82,8 @@ joined_values operator (Value a) (Value b) = or_no_value (applied operator a b)
 joined_values operator (Value a) NoValue = decided operator a
 joined_values operator a b = NoValue
 
-abbrev pub joined : Operator → Constant → Constant → Constant
-joined operator a b = over a b (joined_values operator a b)
+abbrev pub joined_constants : Operator → Constant → Constant → Constant
+joined_constants operator a b = over a b (joined_values operator a b)
 
 abbrev pub unary_constant : UnaryOperator → Constant → Constant
 unary_constant sign (Value value) = Value (unary_applied sign value)
@@ -94,18 +94,18 @@ abbrev pub chosen_value : Constant → Constant → Constant → Constant
 chosen_value (Value test) a b = if is_set test then a else b
 chosen_value test a b = NoValue
 
-abbrev pub chosen : Constant → Constant → Constant → Constant
-chosen test a b = over test (over a b (Value (pos 0))) (chosen_value test a b)
+abbrev pub chosen_constant : Constant → Constant → Constant → Constant
+chosen_constant test a b = over test (over a b (Value (pos 0))) (chosen_value test a b)
 
 abbrev mutual
   pub constant_of : Env → t.Expr → Constant
-  constant_of env (t.number at) = Value (pos (number_at env.text at))
+  constant_of env (t.number at) = Value (pos (literal_at env.text at))
   constant_of env (t.read place) = place_constant env place
   constant_of env (t.field place dot name) = Variable
   constant_of env (t.paren opening inner closing) = constant_of env inner
   constant_of env (t.unary sign at operand) = unary_constant (unary_of sign) (constant_of env operand)
   constant_of env (t.chain level first links) = links_constant env (constant_of env first) links
-  constant_of env (t.choice test question taken colon spared) = chosen (constant_of env test) (constant_of env taken) (constant_of env spared)
+  constant_of env (t.choice test question taken colon spared) = chosen_constant (constant_of env test) (constant_of env taken) (constant_of env spared)
 
   pub place_constant : Env → t.Place → Constant
   place_constant env (t.whole name) = constant_meant (meaning env name)
@@ -113,26 +113,26 @@ abbrev mutual
 
   pub links_constant : Env → Constant → t.Links → Constant
   links_constant env left t.no_link = left
-  links_constant env left (t.link operator at operand rest) = links_constant env (joined (operator_of operator) left (constant_of env operand)) rest
+  links_constant env left (t.link operator at operand rest) = links_constant env (joined_constants (operator_of operator) left (constant_of env operand)) rest
 
 -- each name without a meaning, at the name
 abbrev mutual
-  pub names_in : Env → t.Expr → List TypingFault
-  names_in env (t.number at) = []
-  names_in env (t.read place) = names_in_place env place
-  names_in env (t.field place dot name) = names_in_place env place
-  names_in env (t.paren opening inner closing) = names_in env inner
-  names_in env (t.unary sign at operand) = names_in env operand
-  names_in env (t.chain level first links) = names_in env first ++ names_in_links env links
-  names_in env (t.choice test question taken colon spared) = (names_in env test ++ names_in env taken) ++ names_in env spared
+  pub unknown_name_faults : Env → t.Expr → List TypingFault
+  unknown_name_faults env (t.number at) = []
+  unknown_name_faults env (t.read place) = names_in_place env place
+  unknown_name_faults env (t.field place dot name) = names_in_place env place
+  unknown_name_faults env (t.paren opening inner closing) = unknown_name_faults env inner
+  unknown_name_faults env (t.unary sign at operand) = unknown_name_faults env operand
+  unknown_name_faults env (t.chain level first links) = unknown_name_faults env first ++ names_in_links env links
+  unknown_name_faults env (t.choice test question taken colon spared) = (unknown_name_faults env test ++ unknown_name_faults env taken) ++ unknown_name_faults env spared
 
   pub names_in_place : Env → t.Place → List TypingFault
   names_in_place env (t.whole name) = name_faults (meaning env name) name
-  names_in_place env (t.cell name opening index closing) = name_faults (meaning env name) name ++ names_in env index
+  names_in_place env (t.cell name opening index closing) = name_faults (meaning env name) name ++ unknown_name_faults env index
 
   pub names_in_links : Env → t.Links → List TypingFault
   names_in_links env t.no_link = []
-  names_in_links env (t.link operator at operand rest) = names_in env operand ++ names_in_links env rest
+  names_in_links env (t.link operator at operand rest) = unknown_name_faults env operand ++ names_in_links env rest
 
 -- how many cells an array has; 0 if its length is none
 abbrev pub length_from : Constant → ℕ
@@ -142,11 +142,11 @@ length_from other = 0
 abbrev pub length_of : Env → t.Expr → ℕ
 length_of env e = length_from (constant_of env e)
 
-abbrev pub value_faults : Constant → ℕ → Span → List TypingFault
-value_faults Nameless length at = []
-value_faults other zero at = fault at WrongType
-value_faults other (suc n) at = []
+abbrev pub constant_faults : Constant → ℕ → Span → List TypingFault
+constant_faults Nameless length at = []
+constant_faults other zero at = fault at WrongType
+constant_faults other (suc n) at = []
 
 -- a name without a meaning, or, at the first token, what is no constant, or has no value from 1 to the greatest length
 abbrev pub length_faults : Env → t.Expr → List TypingFault
-length_faults env e = names_in env e ++ value_faults (constant_of env e) (length_of env e) (first_token e)
+length_faults env e = unknown_name_faults env e ++ constant_faults (constant_of env e) (length_of env e) (first_token e)

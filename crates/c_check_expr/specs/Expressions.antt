@@ -7,7 +7,7 @@ use Rattle.c_grammar.specs.declared.terminal.Symbol.{Symbol}
 use Rattle.c_grammar.specs.declared.terminal.Symbol.TheVariants as w
 use Rattle.c_grammar.specs.Tree as t
 use Rattle.c_names.specs.declared.kind.VariableKind.TheVariants.{Int, Status}
-use Rattle.c_check_expr.specs.Least.{unless}
+use Rattle.c_check_expr.specs.Least.{fault_unless}
 use Rattle.c_check_expr.specs.Kinds.{compares, kind_faults, kind_of, place_kind, place_first_token, first_token}
 use Rattle.c_check_expr.specs.Scopes.{Env, token_bytes, meaning, name_faults}
 use Rattle.c_check_expr.specs.declared.fault.TypingFault.{TypingFault}
@@ -41,7 +41,7 @@ abbrev pub is_field : List ℕ → Bool
 is_field name = bytes_eq name (codes "MPI_SOURCE") || bytes_eq name (codes "MPI_TAG")
 
 abbrev pub field_faults : Env → ExprKind → Span → List TypingFault
-field_faults env (Of Status) name = unless (is_field (token_bytes env.text name)) name LeftOut
+field_faults env (Of Status) name = fault_unless (is_field (token_bytes env.text name)) name LeftOut
 field_faults env kind name = []
 
 abbrev mutual
@@ -61,7 +61,7 @@ abbrev mutual
   pub place_faults : Env → t.Place → List TypingFault
   place_faults env (t.whole name) = name_faults (meaning env name) name
   place_faults env (t.cell name opening index closing) =
-      (name_faults (meaning env name) name ++ unless (takes_index (meaning env name)) name WrongType)
+      (name_faults (meaning env name) name ++ fault_unless (takes_index (meaning env name)) name WrongType)
       ++ (expr_faults env index ++ kind_faults (Of Int) (kind_of env index) (first_token index))
 
   -- the left operand's kind and first token, and the operators and operands after it

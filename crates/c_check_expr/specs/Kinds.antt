@@ -8,7 +8,7 @@ use Rattle.c_grammar.specs.Tree as t
 use Rattle.c_names.specs.declared.predefined.Predefined.TheVariants as p
 use Rattle.c_names.specs.declared.kind.VariableKind.{VariableKind}
 use Rattle.c_names.specs.declared.kind.VariableKind.TheVariants.{Int, Status, Request, Communicator}
-use Rattle.c_check_expr.specs.Least.{unless}
+use Rattle.c_check_expr.specs.Least.{fault_unless}
 use Rattle.c_check_expr.specs.Scopes.{Env, meaning}
 use Rattle.c_check_expr.specs.declared.fault.TypingFault.{TypingFault}
 use Rattle.c_check_expr.specs.declared.meaning.ExprKind.{ExprKind}
@@ -83,22 +83,22 @@ first_token (t.choice test question taken colon spared) = first_token test
 
 -- whether something of one kind may stand where one is wanted. What has no meaning fits where it would fit for one of its meanings:
 -- an element is an int, a status, a request or a communicator
-abbrev pub fits : ExprKind → ExprKind → Bool
-fits Nothing given = true
-fits wanted Nothing = true
-fits (Of Int) (Of Int) = true
-fits (Of Status) (Of Status) = true
-fits (Of Communicator) (Of Communicator) = true
-fits (Of Int) Element = true
-fits (Of Status) Element = true
-fits (Of Communicator) Element = true
+abbrev pub kind_fits : ExprKind → ExprKind → Bool
+kind_fits Nothing given = true
+kind_fits wanted Nothing = true
+kind_fits (Of Int) (Of Int) = true
+kind_fits (Of Status) (Of Status) = true
+kind_fits (Of Communicator) (Of Communicator) = true
+kind_fits (Of Int) Element = true
+kind_fits (Of Status) Element = true
+kind_fits (Of Communicator) Element = true
 -- requests are not copied
-fits (Of Request) NullRequest = true
-fits wanted given = false
+kind_fits (Of Request) NullRequest = true
+kind_fits wanted given = false
 
 -- something else than what is wanted, at its first token
 abbrev pub kind_faults : ExprKind → ExprKind → Span → List TypingFault
-kind_faults wanted given at = unless (fits wanted given) at WrongType
+kind_faults wanted given at = fault_unless (kind_fits wanted given) at WrongType
 
 -- the two sides of `==` and `!=` that may be handles: for what has no meaning, where one of its meanings makes them so
 abbrev pub compares : ExprKind → ExprKind → Bool

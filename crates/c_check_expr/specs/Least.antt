@@ -30,12 +30,12 @@ abbrev pub take_less : Option TypingFault → TypingFault → Option TypingFault
 take_less None f = Some f
 take_less (Some g) f = if is_less f g then Some f else Some g
 
-abbrev pub least_from : Option TypingFault → List TypingFault → Option TypingFault
-least_from b [] = b
-least_from b (f ∷ fs) = least_from (take_less b f) fs
+abbrev pub least_fault_from : Option TypingFault → List TypingFault → Option TypingFault
+least_fault_from b [] = b
+least_fault_from b (f ∷ fs) = least_fault_from (take_less b f) fs
 
 -- one of them, and none of them is less
-pub record IsFirst (fs : List TypingFault) (f : TypingFault) : Type 0 where
+pub record IsLeastFault (fs : List TypingFault) (f : TypingFault) : Type 0 where
   pub one : IsIn f fs
   pub first : (g : TypingFault) → IsIn g fs → is_less g f ≡ false
 
@@ -44,5 +44,5 @@ abbrev pub fault : Span → Why → List TypingFault
 fault span why = record { at = span.start; why = why } ∷ []
 
 -- one fault, unless all is well
-abbrev pub unless : Bool → Span → Why → List TypingFault
-unless well span why = if well then [] else fault span why
+abbrev pub fault_unless : Bool → Span → Why → List TypingFault
+fault_unless well span why = if well then [] else fault span why

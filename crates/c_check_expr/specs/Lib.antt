@@ -3,9 +3,8 @@ pub mod Scopes
 pub mod Signatures
 pub mod Rows
 pub mod Variables
-pub mod Innermost
-pub mod ScopeView
 pub mod Kinds
 pub mod Literals
 pub mod Constants
 pub mod Expressions
+pub mod inside

@@ -13,5 +13,5 @@ abbrev pub is_literal : List ℕ → Bool
 is_literal word = (nat_lt 0 (length (digits_of word)) && all_digits (base word) (digits_of word)) && nat_le (literal_value word) 2147483647
 
 -- the number of a token; 0 for what is no literal, as no token is
-abbrev pub number_at : List ℕ → Span → ℕ
-number_at text span = if is_literal (token_bytes text span) then literal_value (token_bytes text span) else 0
+abbrev pub literal_at : List ℕ → Span → ℕ
+literal_at text span = if is_literal (token_bytes text span) then literal_value (token_bytes text span) else 0

@@ -2,5 +2,5 @@
 use Rattle.std.specs.Prelude.{List, ◌∷◌, map}
 use Rattle.c_grammar.specs.declared.statement.CommaList.{CommaList}
 
-abbrev pub items_of : {A : Type 0} → CommaList A → List A
-items_of list = list.first ∷ map (λ behind. behind.item) list.more.items
+abbrev pub comma_items : {A : Type 0} → CommaList A → List A
+comma_items list = list.first ∷ map (λ behind. behind.item) list.more.items

@@ -9,7 +9,7 @@ use Rattle.c_grammar.specs.declared.terminal.Span.{Span}
 use Rattle.c_names.specs.Predefined.{predefined}
 use Rattle.c_names.specs.declared.function.ArgumentKind.{ArgumentKind}
 use Rattle.c_names.specs.declared.predefined.Predefined.{Predefined}
-use Rattle.c_check_expr.specs.Least.{fault, unless}
+use Rattle.c_check_expr.specs.Least.{fault, fault_unless}
 use Rattle.c_check_expr.specs.declared.fault.TypingFault.{TypingFault}
 use Rattle.c_check_expr.specs.declared.meaning.Entity.{Entity}
 use Rattle.c_check_expr.specs.declared.meaning.Meaning.{Meaning}
@@ -71,7 +71,7 @@ is_taken entries name = is_some (predefined name) || is_in_block entries name
 
 -- a name that is predefined, or declared in this block before, at the name
 abbrev pub twice_faults : Env → Span → List TypingFault
-twice_faults env span = unless (not (is_taken env.entries (token_bytes env.text span))) span Twice
+twice_faults env span = fault_unless (not (is_taken env.entries (token_bytes env.text span))) span Twice
 
 abbrev pub declare : Env → Span → Entity → Env
 declare env span entity = record env { entries = named (token_bytes env.text span) entity ∷ env.entries }

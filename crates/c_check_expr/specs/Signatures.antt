@@ -12,9 +12,9 @@ use Rattle.c_check_expr.specs.declared.meaning.Entity.TheVariants as d
 abbrev pub listed : {A : Type 0} → t.CommaList A → List A
 listed (t.comma_list first more) = first ∷ map (λ behind. behind.1) more
 
-abbrev pub is_int : Symbol → Bool
-is_int w.Int = true
-is_int _ = false
+abbrev pub is_int_keyword : Symbol → Bool
+is_int_keyword w.Int = true
+is_int_keyword _ = false
 
 -- an int, a communicator, or a reference to ints; no argument fits a `char` parameter
 abbrev pub parameter_takes : t.Parameter → ArgumentKind
@@ -31,7 +31,7 @@ parameters_listed (t.void at) = []
 parameters_listed (t.parameters parameters) = listed parameters
 
 abbrev pub signature_of : t.Head → Signature
-signature_of head = record { gives = is_int head.result; takes = map parameter_takes (parameters_listed head.listed) }
+signature_of head = record { gives = is_int_keyword head.result; takes = map parameter_takes (parameters_listed head.listed) }
 
 -- functions are visible in the whole text; of two with one name, the first
 abbrev pub function_entries : List ℕ → ℕ → List t.Head → List Entry

@@ -15,19 +15,19 @@ is_variable (d.Function number) = 0
 is_variable (d.Define value) = 0
 is_variable _ = 1
 
-abbrev pub variables_in : List Entry → ℕ
-variables_in [] = 0
-variables_in (opening ∷ rest) = variables_in rest
-variables_in (named name entity ∷ rest) = is_variable entity + variables_in rest
+abbrev pub declared_variables : List Entry → ℕ
+declared_variables [] = 0
+declared_variables (opening ∷ rest) = declared_variables rest
+declared_variables (named name entity ∷ rest) = is_variable entity + declared_variables rest
 
 -- how many variables stand before the innermost declaration of a name
-abbrev pub number_in : List Entry → List ℕ → ℕ
-number_in [] name = 0
-number_in (opening ∷ rest) name = number_in rest name
-number_in (named other entity ∷ rest) name = if bytes_eq other name then variables_in rest else number_in rest name
+abbrev pub variable_number : List Entry → List ℕ → ℕ
+variable_number [] name = 0
+variable_number (opening ∷ rest) name = variable_number rest name
+variable_number (named other entity ∷ rest) name = if bytes_eq other name then declared_variables rest else variable_number rest name
 
 abbrev pub variable : Env → Span → ℕ
-variable env name = number_in env.entries (token_bytes env.text name)
+variable env name = variable_number env.entries (token_bytes env.text name)
 
 -- a handle is a number, and none is -1
 abbrev pub value_meant : Meaning → Option ℤ

@@ -1,6 +1,6 @@
 //! Lists with a comma between each two items.
 ghost use Rattle.std.specs.Prelude.{◌≡◌, length, option_map, slice_get, IfSome, IfNone, Some, None};
-ghost use Rattle.c_check_expr.specs.Rows.{items_of};
+ghost use Rattle.c_check_expr.specs.Rows.{comma_items};
 
 use c_grammar::statement::{AfterComma, CommaList};
 
@@ -13,14 +13,14 @@ fn after_comma_at<T>(more: &[AfterComma<T>], index: usize) -> Option<&AfterComma
 
 /// How many they are.
 pub fn item_count<T>(list: &CommaList<T>) -> usize
-    ensures { result ≡ length (items_of list.now) }
+    ensures { result ≡ length (comma_items list.now) }
 {
     list.more.len() + 1
 }
 
 /// One by its index.
 pub fn item_at<T>(list: &CommaList<T>, index: usize) -> Option<&T>
-    ensures { option_map (λ found. found.now) result ≡ slice_get (items_of list.now) index }
+    ensures { option_map (λ found. found.now) result ≡ slice_get (comma_items list.now) index }
 {
     if index == 0 {
         return Some(&list.first);

@@ -1,8 +1,8 @@
 //! Expressions of numbers, defines and predefined ints.
 ghost use Rattle.std.specs.Prelude.{◌≡◌, ℤ, Option, map, pos, zero, suc};
 ghost use Rattle.c_grammar.specs.View.{links_from, piece, place_view, view};
-ghost use Rattle.c_check_expr.specs.Constants.{chosen, chosen_value, constant_meant, constant_of, decided, joined, joined_values, length_faults, length_from, length_of, links_constant, names_in, names_in_links, names_in_place, operator_of, or_no_value, over, place_constant, unary_of, unary_constant, value_faults};
-ghost use Rattle.c_check_expr.specs.Least.{least_from};
+ghost use Rattle.c_check_expr.specs.Constants.{chosen_constant, chosen_value, constant_meant, constant_of, decided, joined_constants, joined_values, length_faults, length_from, length_of, links_constant, unknown_name_faults, names_in_links, names_in_place, operator_of, or_no_value, over, place_constant, unary_of, unary_constant, constant_faults};
+ghost use Rattle.c_check_expr.specs.Least.{least_fault_from};
 
 use crate::fault::{TypingFault, note_at};
 use crate::kind::first_token;
@@ -132,7 +132,7 @@ fn joined_values(operator: Operator, a: Constant, b: Constant) -> Constant
 }
 
 fn joined(operator: Operator, a: Constant, b: Constant) -> Constant
-    ensures { result ≡ joined operator a b }
+    ensures { result ≡ joined_constants operator a b }
 {
     over(a, b, joined_values(operator, a, b))
 }
@@ -156,7 +156,7 @@ fn chosen_value(test: Constant, a: Constant, b: Constant) -> Constant
 }
 
 fn chosen(test: Constant, a: Constant, b: Constant) -> Constant
-    ensures { result ≡ chosen test a b }
+    ensures { result ≡ chosen_constant test a b }
 {
     over(
         test,
@@ -223,7 +223,7 @@ fn links_constant(scope: &Scope, left: Constant, links: &[Link]) -> Constant
 #[cycle(names)]
 #[tactic(auto, using(c_grammar::proofs::Viewed::views, crate::proofs::Least::least_from_append))]
 fn want_names(best: &mut Option<TypingFault>, scope: &Scope, e: &Expr)
-    ensures { best.new ≡ least_from best.old (names_in scope.now (view e.now)) }
+    ensures { best.new ≡ least_fault_from best.old (unknown_name_faults scope.now (view e.now)) }
 {
     match e {
         Expr::Number(_) => {}
@@ -251,7 +251,7 @@ fn want_names(best: &mut Option<TypingFault>, scope: &Scope, e: &Expr)
 #[cycle(names)]
 #[tactic(auto, using(c_grammar::proofs::Viewed::views, crate::proofs::Least::least_from_append))]
 fn want_names_in_place(best: &mut Option<TypingFault>, scope: &Scope, place: &Place)
-    ensures { best.new ≡ least_from best.old (names_in_place scope.now (place_view place.now)) }
+    ensures { best.new ≡ least_fault_from best.old (names_in_place scope.now (place_view place.now)) }
 {
     match place {
         Place::Whole(name) => want_meaning(best, scope.meaning(*name), *name),
@@ -264,7 +264,7 @@ fn want_names_in_place(best: &mut Option<TypingFault>, scope: &Scope, place: &Pl
 
 #[cycle(names)]
 fn want_names_in_links(best: &mut Option<TypingFault>, scope: &Scope, links: &[Link])
-    ensures { best.new ≡ least_from best.old (names_in_links scope.now (links_from (map piece links.now))) }
+    ensures { best.new ≡ least_fault_from best.old (names_in_links scope.now (links_from (map piece links.now))) }
 {
     for link in links {
         want_names(best, scope, &link.operand);
@@ -294,7 +294,7 @@ pub fn length_of(scope: &Scope, e: &Expr) -> u32
 }
 
 fn want_value(best: &mut Option<TypingFault>, constant: Constant, length: u32, at: Span)
-    ensures { best.new ≡ least_from best.old (value_faults constant length at) }
+    ensures { best.new ≡ least_fault_from best.old (constant_faults constant length at) }
 {
     match constant {
         Constant::Nameless => {}
@@ -309,7 +309,7 @@ fn want_value(best: &mut Option<TypingFault>, constant: Constant, length: u32, a
 /// The length of an array.
 #[tactic(auto, using(crate::proofs::Least::least_from_append))]
 pub fn want_length(best: &mut Option<TypingFault>, scope: &Scope, e: &Expr)
-    ensures { best.new ≡ least_from best.old (length_faults scope.now (view e.now)) }
+    ensures { best.new ≡ least_fault_from best.old (length_faults scope.now (view e.now)) }
 {
     want_names(best, scope, e);
     let constant = constant_of(scope, e);

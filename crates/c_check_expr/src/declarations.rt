@@ -1,10 +1,10 @@
 //! Declarations, and the blocks that they are in.
 ghost use Rattle.std.specs.Prelude.{◌≡◌, ◌∷◌, [], OnOk};
-ghost use Rattle.c_check_expr.specs.Innermost.{innermost};
+ghost use Rattle.c_check_expr.specs.inside.Innermost.{innermost_declaration};
 ghost use Rattle.c_check_expr.specs.Scopes.{closed, is_in_block, named, opening};
 ghost use Rattle.c_check_expr.specs.Variables.{is_variable};
 
-use crate::innermost::{Declaration, Innermost};
+use crate::innermost::{DeclaredName, Innermost};
 use crate::meaning::Entity;
 use std::alloc::{AllocError, Global};
 use std::marker::Model;
@@ -17,7 +17,7 @@ pub enum Placed<'a> {
         name: &'a [u8],
         entity: Entity,
         /// What the name meant outside.
-        hidden: Option<Declaration>,
+        hidden: Option<DeclaredName>,
     },
 }
 
@@ -35,13 +35,13 @@ pub struct Declarations<'a> {
 impl<'a> Model for Declarations<'a> {
     ghost use Rattle.std.specs.Prelude.{List, reverse};
     ghost use Rattle.c_check_expr.specs.Scopes.{Entry};
-    ghost use Rattle.c_check_expr.specs.ScopeView.{IsKept, entries_view};
+    ghost use Rattle.c_check_expr.specs.inside.ScopeView.{IsScopeTable, entries_view};
 
     ghost Value = { List Entry };
 
     ghost view = { λ s. entries_view s.placed.items };
 
-    ghost invariant = { λ s. IsKept (reverse s.placed.items) s.innermost s.variables s.depth };
+    ghost invariant = { λ s. IsScopeTable (reverse s.placed.items) s.innermost s.variables s.depth };
 }
 
 impl<'a> Declarations<'a> {
@@ -58,8 +58,8 @@ impl<'a> Declarations<'a> {
     }
 
     /// The innermost declaration of a name.
-    pub fn get(&self, name: &[u8]) -> Option<Declaration>
-        ensures { result ≡ innermost self.now name.now }
+    pub fn get(&self, name: &[u8]) -> Option<DeclaredName>
+        ensures { result ≡ innermost_declaration self.now name.now }
     {
         self.innermost.get(name)
     }
@@ -79,7 +79,7 @@ impl<'a> Declarations<'a> {
         ensures { OnOk result (self.new ≡ named name.now entity ∷ self.old) }
     {
         let hidden = self.innermost.get(name);
-        let declaration = Declaration {
+        let declaration = DeclaredName {
             entity,
             variables: self.variables,
             depth: self.depth,

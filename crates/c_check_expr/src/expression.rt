@@ -2,7 +2,7 @@
 ghost use Rattle.std.specs.Prelude.{◌≡◌, map};
 ghost use Rattle.c_grammar.specs.View.{links_from, piece, place_view, view};
 ghost use Rattle.c_check_expr.specs.Expressions.{expr_faults, field_faults, int_faults, is_equality, is_field, links_faults, operand_faults, place_faults, takes_index, wanted_faults};
-ghost use Rattle.c_check_expr.specs.Least.{least_from};
+ghost use Rattle.c_check_expr.specs.Least.{least_fault_from};
 
 use crate::fault::{TypingFault, note_unless};
 use crate::kind::{compares, first_token, kind_of, place_first_token, place_kind, want_kind};
@@ -46,7 +46,7 @@ fn want_operands(
     right: ExprKind,
     right_at: Span,
 )
-    ensures { best.new ≡ least_from best.old (operand_faults operator left left_at right right_at) }
+    ensures { best.new ≡ least_fault_from best.old (operand_faults operator left left_at right right_at) }
 {
     if !(is_equality(operator) && compares(left, right)) {
         want_kind(best, ExprKind::Of(VariableKind::Int), left, left_at);
@@ -62,7 +62,7 @@ fn is_field(name: &[u8]) -> bool
 
 /// A field that a status has.
 fn want_field(best: &mut Option<TypingFault>, scope: &Scope, kind: ExprKind, name: Span)
-    ensures { best.new ≡ least_from best.old (field_faults scope.now kind name) }
+    ensures { best.new ≡ least_fault_from best.old (field_faults scope.now kind name) }
 {
     if let ExprKind::Of(VariableKind::Status) = kind {
         note_unless(
@@ -78,7 +78,7 @@ fn want_field(best: &mut Option<TypingFault>, scope: &Scope, kind: ExprKind, nam
 #[cycle(expression)]
 #[tactic(auto, using(c_grammar::proofs::Viewed::views, crate::proofs::Least::least_from_append))]
 pub fn check_expr(best: &mut Option<TypingFault>, scope: &Scope, e: &Expr)
-    ensures { best.new ≡ least_from best.old (expr_faults scope.now (view e.now)) }
+    ensures { best.new ≡ least_fault_from best.old (expr_faults scope.now (view e.now)) }
 {
     match e {
         Expr::Number(_) => {}
@@ -122,7 +122,7 @@ pub fn check_expr(best: &mut Option<TypingFault>, scope: &Scope, e: &Expr)
 #[cycle(expression)]
 #[tactic(auto, using(c_grammar::proofs::Viewed::views, crate::proofs::Least::least_from_append))]
 pub fn check_place(best: &mut Option<TypingFault>, scope: &Scope, place: &Place)
-    ensures { best.new ≡ least_from best.old (place_faults scope.now (place_view place.now)) }
+    ensures { best.new ≡ least_fault_from best.old (place_faults scope.now (place_view place.now)) }
 {
     match place {
         Place::Whole(name) => want_meaning(best, scope.meaning(*name), *name),
@@ -144,7 +144,7 @@ fn check_links(
     left_at: Span,
     links: &[Link],
 )
-    ensures { best.new ≡ least_from best.old (links_faults scope.now left left_at (links_from (map piece links.now))) }
+    ensures { best.new ≡ least_fault_from best.old (links_faults scope.now left left_at (links_from (map piece links.now))) }
 {
     let mut kind = left;
     for link in links {
@@ -165,7 +165,7 @@ fn check_links(
 /// An int is wanted.
 #[cycle(expression)]
 pub fn want_int(best: &mut Option<TypingFault>, scope: &Scope, e: &Expr)
-    ensures { best.new ≡ least_from best.old (int_faults scope.now (view e.now)) }
+    ensures { best.new ≡ least_fault_from best.old (int_faults scope.now (view e.now)) }
 {
     check_expr(best, scope, e);
     want_kind(best, INT, kind_of(scope, e), first_token(e));
@@ -174,7 +174,7 @@ pub fn want_int(best: &mut Option<TypingFault>, scope: &Scope, e: &Expr)
 /// An expression of a kind is wanted.
 #[tactic(auto, using(crate::proofs::Least::least_from_append))]
 pub fn want_expr(best: &mut Option<TypingFault>, scope: &Scope, wanted: ExprKind, e: &Expr)
-    ensures { best.new ≡ least_from best.old (wanted_faults scope.now wanted (view e.now)) }
+    ensures { best.new ≡ least_fault_from best.old (wanted_faults scope.now wanted (view e.now)) }
 {
     check_expr(best, scope, e);
     want_kind(best, wanted, kind_of(scope, e), first_token(e));

@@ -1,6 +1,6 @@
 //! Faults, ordered by place and then by reason.
 ghost use Rattle.std.specs.Prelude.{◌≡◌};
-ghost use Rattle.c_check_expr.specs.Least.{fault, is_less, least_from, reason_order, take_less, unless};
+ghost use Rattle.c_check_expr.specs.Least.{fault, is_less, least_fault_from, reason_order, take_less, fault_unless};
 
 use c_grammar::terminal::Span;
 use c_lex::Why;
@@ -56,7 +56,7 @@ pub fn note(best: &mut Option<TypingFault>, found: TypingFault)
 
 /// A fault at a token.
 pub fn note_at(best: &mut Option<TypingFault>, span: Span, why: Why)
-    ensures { best.new ≡ least_from best.old (fault span why) }
+    ensures { best.new ≡ least_fault_from best.old (fault span why) }
 {
     note(
         best,
@@ -69,7 +69,7 @@ pub fn note_at(best: &mut Option<TypingFault>, span: Span, why: Why)
 
 /// A fault at a token, unless all is well.
 pub fn note_unless(best: &mut Option<TypingFault>, well: bool, span: Span, why: Why)
-    ensures { best.new ≡ least_from best.old (unless well span why) }
+    ensures { best.new ≡ least_fault_from best.old (fault_unless well span why) }
 {
     if !well {
         note_at(best, span, why);

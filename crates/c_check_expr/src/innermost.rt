@@ -1,6 +1,6 @@
 //! The innermost declarations of names.
 ghost use Rattle.std.specs.Prelude.{◌≡◌, [], IsSome, None, OnErr, OnOk, Some};
-ghost use Rattle.c_check_expr.specs.Innermost.{Sets, HaveSame, declared_in};
+ghost use Rattle.c_check_expr.specs.inside.Innermost.{Sets, HaveSameDeclarations, declared_in};
 
 use crate::meaning::Entity;
 use indexmap::IndexMap;
@@ -9,7 +9,7 @@ use std::marker::Model;
 
 /// What a name was declared as, how many variables were declared before it, and in how many blocks it is.
 #[derive(Clone, Copy)]
-pub struct Declaration {
+pub struct DeclaredName {
     pub entity: Entity,
     pub variables: usize,
     pub depth: usize,
@@ -18,13 +18,13 @@ pub struct Declaration {
 /// The innermost declarations of names; None for a name whose blocks have ended.
 #[derive(Drop)]
 pub struct Innermost<'a> {
-    names: IndexMap<&'a [u8], Option<Declaration>>,
+    names: IndexMap<&'a [u8], Option<DeclaredName>>,
 }
 
 impl<'a> Model for Innermost<'a> {
-    ghost use Rattle.c_check_expr.specs.Innermost.{Table};
+    ghost use Rattle.c_check_expr.specs.inside.Innermost.{DeclarationTable};
 
-    ghost Value = { Table };
+    ghost Value = { DeclarationTable };
 
     ghost view = { λ s. s.names.entries };
 }
@@ -40,7 +40,7 @@ impl<'a> Innermost<'a> {
     }
 
     /// The innermost declaration of a name.
-    pub fn get(&self, name: &[u8]) -> Option<Declaration>
+    pub fn get(&self, name: &[u8]) -> Option<DeclaredName>
         ensures { result ≡ declared_in self.now name.now }
     {
         match self.names.get(name) {
@@ -50,16 +50,16 @@ impl<'a> Innermost<'a> {
     }
 
     /// Hides the innermost declaration of a name by another.
-    pub fn hide(&mut self, name: &'a [u8], declaration: Declaration) -> Result<(), AllocError>
+    pub fn hide(&mut self, name: &'a [u8], declaration: DeclaredName) -> Result<(), AllocError>
         ensures ok { OnOk result (Sets self.old self.new name.now (Some declaration)) }
-        ensures err { OnErr result (HaveSame self.old self.new) }
+        ensures err { OnErr result (HaveSameDeclarations self.old self.new) }
     {
         self.names.insert(name, Some(declaration))?;
         Ok(())
     }
 
     /// Puts back what the innermost declaration of a name hid. Takes no memory.
-    pub fn put_back(&mut self, name: &[u8], hidden: Option<Declaration>)
+    pub fn put_back(&mut self, name: &[u8], hidden: Option<DeclaredName>)
         requires { IsSome (declared_in self.old name.now) }
         ensures { Sets self.old self.new name.now hidden }
     {

@@ -4,8 +4,8 @@ ghost use Rattle.c_names.specs.declared.kind.VariableKind.TheVariants.{Int, Stat
 ghost use Rattle.c_check_expr.specs.declared.meaning.ExprKind.{ExprKind};
 ghost use Rattle.c_check_expr.specs.declared.meaning.ExprKind.TheVariants.{Of, Element};
 ghost use Rattle.c_grammar.specs.View.{place_view, view};
-ghost use Rattle.c_check_expr.specs.Kinds.{cell_kind, compares, fits, is_same_kind, kind_faults, kind_of, place_kind, place_first_token, first_token, target_kind, whole_kind};
-ghost use Rattle.c_check_expr.specs.Least.{least_from};
+ghost use Rattle.c_check_expr.specs.Kinds.{cell_kind, compares, kind_fits, is_same_kind, kind_faults, kind_of, place_kind, place_first_token, first_token, target_kind, whole_kind};
+ghost use Rattle.c_check_expr.specs.Least.{least_fault_from};
 
 use crate::fault::{TypingFault, note_unless};
 use crate::meaning::{Entity, ExprKind, Meaning};
@@ -121,7 +121,7 @@ pub fn first_token(e: &Expr) -> Span
 
 /// Whether something of one kind may stand where one is wanted.
 pub fn fits(wanted: ExprKind, given: ExprKind) -> bool
-    ensures { result ≡ fits wanted given }
+    ensures { result ≡ kind_fits wanted given }
 {
     match (wanted, given) {
         (ExprKind::Nothing, _) => true,
@@ -140,7 +140,7 @@ pub fn fits(wanted: ExprKind, given: ExprKind) -> bool
 
 /// Something else than what is wanted.
 pub fn want_kind(best: &mut Option<TypingFault>, wanted: ExprKind, given: ExprKind, at: Span)
-    ensures { best.new ≡ least_from best.old (kind_faults wanted given at) }
+    ensures { best.new ≡ least_fault_from best.old (kind_faults wanted given at) }
 {
     note_unless(best, fits(wanted, given), at, Why::WrongType);
 }
@@ -171,6 +171,6 @@ pub fn compares(left: ExprKind, right: ExprKind) -> bool
 
 /// An element of an array whose name has no meaning fits if and only if an element of one of the kinds does.
 pub fn element_fits()
-    ensures { (wanted : ExprKind) → fits wanted Element
-        ≡ (fits wanted (Of Int) || (fits wanted (Of Status) || (fits wanted (Of Request) || fits wanted (Of Communicator)))) }
+    ensures { (wanted : ExprKind) → kind_fits wanted Element
+        ≡ (kind_fits wanted (Of Int) || (kind_fits wanted (Of Status) || (kind_fits wanted (Of Request) || kind_fits wanted (Of Communicator)))) }
 {}

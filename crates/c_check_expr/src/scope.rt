@@ -2,8 +2,8 @@
 ghost use Rattle.std.specs.Prelude.{◌≡◌, IfOk, OnOk, length, map, option_map, slice_get};
 ghost use Rattle.std.specs.Str.{bytes_eq};
 ghost use Rattle.c_grammar.specs.StmtView.{head_view};
-ghost use Rattle.c_check_expr.specs.Least.{least_from};
-ghost use Rattle.c_check_expr.specs.Literals.{number_at};
+ghost use Rattle.c_check_expr.specs.Least.{least_fault_from};
+ghost use Rattle.c_check_expr.specs.Literals.{literal_at};
 ghost use Rattle.c_check_expr.specs.Signatures.{function_entries, signature_of};
 ghost use Rattle.c_check_expr.specs.Variables.{variable};
 ghost use Rattle.c_check_expr.specs.Scopes.{closed, token_bytes, declare, declared_meaning, found, is_taken, meaning, meaning_of, name_faults, opened, twice_faults};
@@ -36,7 +36,7 @@ pub fn is_same(name: &[u8], other: &[u8]) -> bool
 
 /// The number of a token; 0 for what is no literal.
 pub fn number_at(text: &[u8], span: Span) -> u32
-    ensures { result ≡ number_at text.now span }
+    ensures { result ≡ literal_at text.now span }
 {
     literal_value(token_bytes(text, span)).unwrap_or(0)
 }
@@ -153,7 +153,7 @@ impl<'a> Scope<'a> {
 
     /// A name that may not be declared here.
     pub fn want_free(&self, best: &mut Option<TypingFault>, span: Span)
-        ensures { best.new ≡ least_from best.old (twice_faults self.now span) }
+        ensures { best.new ≡ least_fault_from best.old (twice_faults self.now span) }
     {
         let name = token_bytes(self.text, span);
         let taken = meaning_of(name).is_some() || self.declared.is_in_block(name);
@@ -179,7 +179,7 @@ fn declared_meaning(name: &[u8], found: Option<Entity>) -> Meaning
 
 /// A name without a meaning.
 pub fn want_meaning(best: &mut Option<TypingFault>, meaning: Meaning, span: Span)
-    ensures { best.new ≡ least_from best.old (name_faults meaning span) }
+    ensures { best.new ≡ least_fault_from best.old (name_faults meaning span) }
 {
     match meaning {
         Meaning::Unknown => note_at(best, span, Why::Unknown),

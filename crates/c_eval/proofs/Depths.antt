@@ -2,20 +2,20 @@
 use Rattle.std.proofs.Common.{◌≡◌, ℕ, zero, suc, ◌+◌, ◌-◌, ◌*◌, ◌<◌, ◌≤◌, List, [], ◌∷◌, Some, arith, max, slice_get}
 use denote.Param.Weighed.{most}
 use Rattle.c_program.specs.declared.program.Function.{Function}
-use Rattle.c_program.specs.declared.statement.Part.{size-Part}
+use Rattle.c_program.specs.declared.statement.TypedPart.{size-TypedPart}
 
 abbrev pub deepest : List Function → ℕ
 deepest [] = 0
-deepest (f ∷ fs) = max (most size-Part f.body.items) (deepest fs)
+deepest (f ∷ fs) = max (most size-TypedPart f.body.items) (deepest fs)
 
 -- a number above all that the body of a function takes
 abbrev pub weight : List Function → ℕ
 weight fs = 16 * deepest fs + 64
 
-pub deepest-at : (fs : List Function) (number : ℕ) (f : Function) → slice_get fs number ≡ Some f → most size-Part f.body.items ≤ deepest fs
+pub deepest-at : (fs : List Function) (number : ℕ) (f : Function) → slice_get fs number ≡ Some f → most size-TypedPart f.body.items ≤ deepest fs
 deepest-at [] number f h = absurd (cc)
 deepest-at (g ∷ fs) zero f h = let e : g ≡ f = cc in rw (← e) (omega arith)
-deepest-at (g ∷ fs) (suc number) f h = let below : most size-Part f.body.items ≤ deepest fs = deepest-at fs number f h in omega arith
+deepest-at (g ∷ fs) (suc number) f h = let below : most size-TypedPart f.body.items ≤ deepest fs = deepest-at fs number f h in omega arith
 
 -- one call less, and any statement of a body
 pub fewer-calls : (d w x : ℕ) → 0 < d → x < w → (d - 1) * w + x < d * w

@@ -7,7 +7,7 @@ use Rattle.run_model.specs.declared.program.Want.TheVariants.{Ask, Ended}
 use Rattle.run_model.specs.Program.{MayGive, Says}
 use Rattle.c_program.specs.declared.effect.Rank.{Rank}
 use Rattle.c_program.specs.declared.state.Passed.{Passed}
-use Rattle.c_program.specs.Courses.{Course, after, call_in, listed_of, state_in, variables_in}
+use Rattle.c_program.specs.Courses.{Course, after_replies, call_in, listed_of, state_in, variables_in}
 use Rattle.c_program.specs.Meaning.{call_at, course_of}
 use Rattle.c_program.specs.Performing.{Onward}
 use Rattle.c_program.specs.Program.{next_of, output_of, variables_of}
@@ -27,11 +27,11 @@ wants-says course (Ask call) s w = ap call_in w.is
 wants-says course Ended s w = ap call_in w
 
 pub rank-wants : (program : Program) (rank : Rank) (replies : List Reply) (asked : Bool) (s t : State) (want : Want) → IsRankAt program rank replies asked s
-    → Wants (after (course_of program rank) replies) want t → IsRankAt program rank replies true t
+    → Wants (after_replies (course_of program rank) replies) want t → IsRankAt program rank replies true t
 rank-wants program rank replies asked s t want is w = record { member = is.member; few = is.few; shaped = is.shaped; stands = λ a. wants-state _ want t w }
 
 pub rank-says : (program : Program) (rank : Rank) (replies : List Reply) (asked : Bool) (s t : State) (want : Want) → IsRankAt program rank replies asked s
-    → Wants (after (course_of program rank) replies) want t → Says want (next_of program rank.ranks rank.number replies)
+    → Wants (after_replies (course_of program rank) replies) want t → Says want (next_of program rank.ranks rank.number replies)
 rank-says program rank replies asked s t want is w = rw is.shaped (wants-says _ want t w)
 
 pub rank-gives : (program : Program) (rank : Rank) (replies : List Reply) (reply : Reply) (asked : Bool) (s t : State) → IsRankAt program rank replies asked s
@@ -51,11 +51,11 @@ rank-printed program rank replies asked s is a = sym (ap (λ c. (state_in c).pri
 pub rank-variables : (program : Program) (rank : Rank) (replies : List Reply) (asked : Bool) (s : State) (call : Call) → IsRankAt program rank replies asked s → asked ≡ true
     → next_of program rank.ranks rank.number replies ≡ Some call → listed_of s s.slots ≡ variables_of program rank.ranks rank.number replies
 rank-variables program rank replies asked s call is a live =
-    sym (ap variables_in is.shaped ∙ live-variables (after (course_of program rank) replies) call (ap call_in (sym is.shaped) ∙ live) ∙ ap (λ (u : State). listed_of u u.slots) (is.stands a))
+    sym (ap variables_in is.shaped ∙ live-variables (after_replies (course_of program rank) replies) call (ap call_in (sym is.shaped) ∙ live) ∙ ap (λ (u : State). listed_of u u.slots) (is.stands a))
 
 pub wants-from : (course course' : Course) (want : Want) (s : State) → course ≡ course' → Wants course' want s → Wants course want s
 wants-from course course' want s e w = let P : Course → Type 0 = λ c. Wants c want s in subst P (sym e) w
 
 pub moved : (rank : Rank) (fs fs' : List Function) (depth main : ℕ) (arguments : List Passed) (go : ℤ → Onward) (s s' t : State) (replies replies' : List Reply) (want : Want)
-    → fs ≡ fs' → s ≡ s' → replies ≡ replies' → Wants (after (call_at rank fs depth main arguments s go) replies) want t → Wants (after (call_at rank fs' depth main arguments s' go) replies') want t
+    → fs ≡ fs' → s ≡ s' → replies ≡ replies' → Wants (after_replies (call_at rank fs depth main arguments s go) replies) want t → Wants (after_replies (call_at rank fs' depth main arguments s' go) replies') want t
 moved rank fs fs' depth main arguments go s s' t replies replies' want same_fs same_s same_replies w = rw (← same_fs, ← same_s, ← same_replies) w

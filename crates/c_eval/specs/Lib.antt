@@ -1,6 +1,4 @@
 pub mod Evaluated
-pub mod Leaving
-pub mod Parts
 pub mod Replies
 pub mod Ranks
-pub mod Statements
+pub mod inside

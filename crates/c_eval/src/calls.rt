@@ -6,7 +6,7 @@ use std::alloc::Global;
 
 /// The rank, the functions of the text, and how many more calls may be open.
 #[derive(Clone, Copy)]
-pub struct Calls<'p> {
+pub struct CallContext<'p> {
     pub alloc: Global,
     pub rank: Rank,
     pub functions: &'p [Function],

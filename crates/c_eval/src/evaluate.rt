@@ -1,20 +1,22 @@
 //! The evaluation of statements.
 ghost use Rattle.std.specs.Prelude.{◌≡◌, ◌≤◌, ◌<◌, OnOk, map, option_copied, option_map};
-ghost use Rattle.c_program.specs.Meaning.{act, act_parts, act_part, call_at, declare, declare_all, for_start, for_update, invoke, loop, loop_after, return, right, simple, started};
+ghost use Rattle.c_program.specs.Meaning.{act, act_parts, act_part, call_at, declare_variable, declare_all, for_start, for_update, invoke, loop, loop_after, return, right, simple, started};
 ghost use Rattle.c_program.specs.View.{pure_call, pure_expr, pure_item, pure_part, pure_parts, pure_place, pure_right, pure_simple, pure_start, pure_stmt};
-ghost use Rattle.c_eval.specs.Evaluated.{Evaluated, Gives, Passes};
-ghost use Rattle.c_eval.specs.Leaving.{Leaves};
-ghost use Rattle.c_eval.specs.Parts.{blocked, calls_of, for_of, turn, value_in, way};
-ghost use Rattle.c_eval.specs.Statements.{assigns, chosen, otherwise};
+ghost use Rattle.c_eval.specs.Evaluated.{Evaluated, EvaluatesTo, Passes};
+ghost use Rattle.c_eval.specs.inside.Leaving.{Leaves};
+ghost use Rattle.c_eval.specs.inside.Parts.{blocked, calls_of, for_block, turn, returned_value, way};
+ghost use Rattle.c_eval.specs.inside.Statements.{assigns, branch, else_meaning};
 
-use crate::calls::Calls;
+use crate::calls::CallContext;
 use crate::flow::Flow;
 use crate::outcome::{Replies, Stop};
 use crate::perform::call_mpi;
 use c_names::operator::Operator;
-use c_program::expr::{Expr, FunctionCall, Place, Right};
+use c_program::expr::{FunctionCall, TypedExpr, TypedPlace, TypedRight};
 use c_program::state::Passed;
-use c_program::statement::{ForStart, InitDeclarator, Initializer, Part, Simple, Stmt};
+use c_program::statement::{
+    TypedForStart, TypedInitDeclarator, TypedInitializer, TypedPart, TypedSimple, TypedStmt,
+};
 use c_run_cells::parts::{
     add, arguments_of, enter, function_at, print, put_assigned, put_values_of, take_step,
 };
@@ -27,13 +29,13 @@ use mpi_call::limits::MOST_RANKS;
 /// A call of a function of the text, which takes a step.
 #[cycle(statements)]
 fn invoke<'p>(
-    calls: &Calls<'p>,
+    calls: &CallContext<'p>,
     call: &'p FunctionCall,
     state: &mut RankState<'p>,
     replies: &mut Replies,
 ) -> Result<i32, Stop>
     requires { calls.now.rank.ranks ≤ MOST_RANKS }
-    ensures { Gives (invoke (calls_of calls.now) (pure_call call.now)) state.old replies.old result state.new replies.new }
+    ensures { EvaluatesTo (invoke (calls_of calls.now) (pure_call call.now)) state.old replies.old result state.new replies.new }
 {
     take_step(state)?;
     let arguments = arguments_of(calls.alloc, &call.arguments, state)?;
@@ -43,14 +45,14 @@ fn invoke<'p>(
 /// The call of a function by its number, once its arguments are evaluated.
 #[cycle(statements)]
 pub fn call_function<'p>(
-    calls: &Calls<'p>,
+    calls: &CallContext<'p>,
     number: usize,
     arguments: &[Passed],
     state: &mut RankState<'p>,
     replies: &mut Replies,
 ) -> Result<i32, Stop>
     requires { calls.now.rank.ranks ≤ MOST_RANKS }
-    ensures { Gives (calls_of calls.now number arguments.now) state.old replies.old result state.new replies.new }
+    ensures { EvaluatesTo (calls_of calls.now number arguments.now) state.old replies.old result state.new replies.new }
 {
     if calls.depth == 0 {
         return Err(Stop::Trapped(Fault::Depth));
@@ -60,7 +62,7 @@ pub fn call_function<'p>(
     };
     let mark = state.mark();
     enter(function, arguments, state)?;
-    let inner = Calls {
+    let inner = CallContext {
         alloc: calls.alloc,
         rank: calls.rank,
         functions: calls.functions,
@@ -73,7 +75,7 @@ pub fn call_function<'p>(
 
 /// What a function gives back.
 fn value_in(flow: Flow) -> i32
-    ensures { result ≡ value_in flow }
+    ensures { result ≡ returned_value flow }
 {
     match flow {
         Flow::Back(value) => value,
@@ -84,27 +86,27 @@ fn value_in(flow: Flow) -> i32
 /// A right side.
 #[cycle(statements)]
 fn value_of<'p>(
-    calls: &Calls<'p>,
-    one: &'p Right,
+    calls: &CallContext<'p>,
+    one: &'p TypedRight,
     state: &mut RankState<'p>,
     replies: &mut Replies,
 ) -> Result<i32, Stop>
     requires { calls.now.rank.ranks ≤ MOST_RANKS }
-    ensures { Gives (right (calls_of calls.now) (pure_right one.now)) state.old replies.old result state.new replies.new }
+    ensures { EvaluatesTo (right (calls_of calls.now) (pure_right one.now)) state.old replies.old result state.new replies.new }
 {
     match one {
-        Right::Value(expression) => Ok(state.value(expression)?),
-        Right::Call(call) => invoke(calls, call, state, replies),
+        TypedRight::Value(expression) => Ok(state.value(expression)?),
+        TypedRight::Call(call) => invoke(calls, call, state, replies),
     }
 }
 
 /// An assignment, by an operator or plain.
 #[cycle(statements)]
 fn assign<'p>(
-    calls: &Calls<'p>,
-    place: &'p Place,
+    calls: &CallContext<'p>,
+    place: &'p TypedPlace,
     operator: Option<Operator>,
-    right: &'p Right,
+    right: &'p TypedRight,
     state: &mut RankState<'p>,
     replies: &mut Replies,
 ) -> Result<(), Stop>
@@ -119,8 +121,8 @@ fn assign<'p>(
 /// A statement that stands before a `;`.
 #[cycle(statements)]
 fn run_simple<'p>(
-    calls: &Calls<'p>,
-    one: &'p Simple,
+    calls: &CallContext<'p>,
+    one: &'p TypedSimple,
     state: &mut RankState<'p>,
     replies: &mut Replies,
 ) -> Result<(), Stop>
@@ -128,50 +130,55 @@ fn run_simple<'p>(
     ensures { Passes (simple calls.now.rank (calls_of calls.now) (pure_simple one.now)) state.old replies.old result state.new replies.new }
 {
     match one {
-        Simple::Set { place, right } => assign(calls, place, None, right, state, replies),
-        Simple::Update {
+        TypedSimple::Set { place, right } => assign(calls, place, None, right, state, replies),
+        TypedSimple::Update {
             place,
             operator,
             right,
         } => assign(calls, place, Some(*operator), right, state, replies),
-        Simple::Call(call) => {
+        TypedSimple::Call(call) => {
             invoke(calls, call, state, replies)?;
             Ok(())
         }
-        Simple::Mpi(call) => call_mpi(calls.alloc, calls.rank, call, state, replies),
-        Simple::Print { format, arguments } => Ok(print(calls.alloc, format, arguments, state)?),
-        Simple::Flush => Ok(()),
+        TypedSimple::Mpi(call) => call_mpi(calls.alloc, calls.rank, call, state, replies),
+        TypedSimple::Print { format, arguments } => Ok(print(
+            calls.alloc,
+            format,
+            arguments,
+            state,
+        )?),
+        TypedSimple::Flush => Ok(()),
     }
 }
 
 /// A variable, with its initial value.
 #[cycle(statements)]
 fn declare<'p>(
-    calls: &Calls<'p>,
-    item: &'p InitDeclarator,
+    calls: &CallContext<'p>,
+    item: &'p TypedInitDeclarator,
     state: &mut RankState<'p>,
     replies: &mut Replies,
 ) -> Result<(), Stop>
     requires { calls.now.rank.ranks ≤ MOST_RANKS }
-    ensures { Passes (declare (calls_of calls.now) (pure_item item.now)) state.old replies.old result state.new replies.new }
+    ensures { Passes (declare_variable (calls_of calls.now) (pure_item item.now)) state.old replies.old result state.new replies.new }
 {
     let cell = add(item, state)?;
     match &item.initial {
-        Initializer::Nothing => Ok(()),
-        Initializer::Right(right) => {
+        TypedInitializer::Nothing => Ok(()),
+        TypedInitializer::Right(right) => {
             let value = value_of(calls, right, state, replies)?;
             state.put(cell, value);
             Ok(())
         }
-        Initializer::Values(expressions) => Ok(put_values_of(expressions, cell, state)?),
+        TypedInitializer::Values(expressions) => Ok(put_values_of(expressions, cell, state)?),
     }
 }
 
 /// Variables, in order.
 #[cycle(statements)]
 fn declare_all<'p>(
-    calls: &Calls<'p>,
-    items: &'p [InitDeclarator],
+    calls: &CallContext<'p>,
+    items: &'p [TypedInitDeclarator],
     state: &mut RankState<'p>,
     replies: &mut Replies,
 ) -> Result<(), Stop>
@@ -189,8 +196,8 @@ fn declare_all<'p>(
 /// What stands before the first `;` of a `for`.
 #[cycle(statements)]
 fn start_for<'p>(
-    calls: &Calls<'p>,
-    start: &'p ForStart,
+    calls: &CallContext<'p>,
+    start: &'p TypedForStart,
     state: &mut RankState<'p>,
     replies: &mut Replies,
 ) -> Result<(), Stop>
@@ -198,20 +205,20 @@ fn start_for<'p>(
     ensures { Passes (for_start calls.now.rank (calls_of calls.now) (pure_start start.now)) state.old replies.old result state.new replies.new }
 {
     match start {
-        ForStart::Nothing => Ok(()),
-        ForStart::Declaration(declaration) => {
+        TypedForStart::Nothing => Ok(()),
+        TypedForStart::Declaration(declaration) => {
             take_step(state)?;
             declare_all(calls, &declaration.items, state, replies)
         }
-        ForStart::Simple(one) => run_simple(calls, one, state, replies),
+        TypedForStart::Simple(one) => run_simple(calls, one, state, replies),
     }
 }
 
 /// What stands behind the second `;` of a `for`.
 #[cycle(statements)]
 fn run_update<'p>(
-    calls: &Calls<'p>,
-    update: Option<&'p Simple>,
+    calls: &CallContext<'p>,
+    update: Option<&'p TypedSimple>,
     state: &mut RankState<'p>,
     replies: &mut Replies,
 ) -> Result<(), Stop>
@@ -227,9 +234,9 @@ fn run_update<'p>(
 /// A turn of a loop. `None` where the loop goes on.
 #[cycle(statements)]
 fn take_turn<'p>(
-    calls: &Calls<'p>,
-    update: Option<&'p Simple>,
-    body: &'p Stmt,
+    calls: &CallContext<'p>,
+    update: Option<&'p TypedSimple>,
+    body: &'p TypedStmt,
     state: &mut RankState<'p>,
     replies: &mut Replies,
 ) -> Result<Option<Flow>, Stop>
@@ -250,10 +257,10 @@ fn take_turn<'p>(
 /// A loop with its test before each turn.
 #[cycle(statements)]
 fn repeat<'p>(
-    calls: &Calls<'p>,
-    test: Option<&'p Expr>,
-    update: Option<&'p Simple>,
-    body: &'p Stmt,
+    calls: &CallContext<'p>,
+    test: Option<&'p TypedExpr>,
+    update: Option<&'p TypedSimple>,
+    body: &'p TypedStmt,
     state: &mut RankState<'p>,
     replies: &mut Replies,
 ) -> Result<Flow, Stop>
@@ -274,9 +281,9 @@ fn repeat<'p>(
 /// A loop with a turn before its first test.
 #[cycle(statements)]
 fn repeat_after<'p>(
-    calls: &Calls<'p>,
-    test: &'p Expr,
-    body: &'p Stmt,
+    calls: &CallContext<'p>,
+    test: &'p TypedExpr,
+    body: &'p TypedStmt,
     state: &mut RankState<'p>,
     replies: &mut Replies,
 ) -> Result<Flow, Stop>
@@ -292,16 +299,16 @@ fn repeat_after<'p>(
 /// A `for`, which is a block of its own.
 #[cycle(statements)]
 fn run_for<'p>(
-    calls: &Calls<'p>,
-    start: &'p ForStart,
-    test: Option<&'p Expr>,
-    update: Option<&'p Simple>,
-    body: &'p Stmt,
+    calls: &CallContext<'p>,
+    start: &'p TypedForStart,
+    test: Option<&'p TypedExpr>,
+    update: Option<&'p TypedSimple>,
+    body: &'p TypedStmt,
     state: &mut RankState<'p>,
     replies: &mut Replies,
 ) -> Result<Flow, Stop>
     requires { calls.now.rank.ranks ≤ MOST_RANKS }
-    ensures { Leaves (for_of calls.now.rank (calls_of calls.now) (pure_start start.now) (option_map pure_expr (option_copied test.entry)) (option_map pure_simple (option_copied update.entry)) (started (act calls.now.rank (calls_of calls.now) (pure_stmt body.now)))) state.old replies.old result state.new replies.new }
+    ensures { Leaves (for_block calls.now.rank (calls_of calls.now) (pure_start start.now) (option_map pure_expr (option_copied test.entry)) (option_map pure_simple (option_copied update.entry)) (started (act calls.now.rank (calls_of calls.now) (pure_stmt body.now)))) state.old replies.old result state.new replies.new }
 {
     let mark = state.mark();
     start_for(calls, start, state, replies)?;
@@ -315,8 +322,8 @@ fn run_for<'p>(
 /// A statement.
 #[cycle(statements)]
 fn run<'p>(
-    calls: &Calls<'p>,
-    stmt: &'p Stmt,
+    calls: &CallContext<'p>,
+    stmt: &'p TypedStmt,
     state: &mut RankState<'p>,
     replies: &mut Replies,
 ) -> Result<Flow, Stop>
@@ -331,8 +338,8 @@ fn run<'p>(
 #[cycle(statements)]
 #[tactic(auto, using(c_program::proofs::StmtViewed::stmt_views))]
 fn act<'p>(
-    calls: &Calls<'p>,
-    stmt: &'p Stmt,
+    calls: &CallContext<'p>,
+    stmt: &'p TypedStmt,
     state: &mut RankState<'p>,
     replies: &mut Replies,
 ) -> Result<Flow, Stop>
@@ -340,22 +347,22 @@ fn act<'p>(
     ensures { Leaves (act calls.now.rank (calls_of calls.now) (pure_stmt stmt.now)) state.old replies.old result state.new replies.new }
 {
     match stmt {
-        Stmt::Block(parts) => run_block(calls, parts, state, replies),
-        Stmt::Empty => Ok(Flow::Next),
-        Stmt::Simple(one) => {
+        TypedStmt::Block(parts) => run_block(calls, parts, state, replies),
+        TypedStmt::Empty => Ok(Flow::Next),
+        TypedStmt::Simple(one) => {
             run_simple(calls, one, state, replies)?;
             Ok(Flow::Next)
         }
-        Stmt::Break => Ok(Flow::Broke),
-        Stmt::Continue => Ok(Flow::Again),
-        Stmt::Return(value) => run_return(calls, value, state, replies),
-        Stmt::If { test, then } => run_if(calls, test, then, None, state, replies),
-        Stmt::IfElse { test, then, other } => {
+        TypedStmt::Break => Ok(Flow::Broke),
+        TypedStmt::Continue => Ok(Flow::Again),
+        TypedStmt::Return(value) => run_return(calls, value, state, replies),
+        TypedStmt::If { test, then } => run_if(calls, test, then, None, state, replies),
+        TypedStmt::IfElse { test, then, other } => {
             run_if(calls, test, then, Some(other), state, replies)
         }
-        Stmt::While { test, body } => repeat(calls, Some(test), None, body, state, replies),
-        Stmt::Do { body, test } => repeat_after(calls, test, body, state, replies),
-        Stmt::For {
+        TypedStmt::While { test, body } => repeat(calls, Some(test), None, body, state, replies),
+        TypedStmt::Do { body, test } => repeat_after(calls, test, body, state, replies),
+        TypedStmt::For {
             start,
             test,
             step,
@@ -375,15 +382,15 @@ fn act<'p>(
 /// An `if`, with an `else` or without.
 #[cycle(statements)]
 fn run_if<'p>(
-    calls: &Calls<'p>,
-    test: &'p Expr,
-    then: &'p Stmt,
-    other: Option<&'p Stmt>,
+    calls: &CallContext<'p>,
+    test: &'p TypedExpr,
+    then: &'p TypedStmt,
+    other: Option<&'p TypedStmt>,
     state: &mut RankState<'p>,
     replies: &mut Replies,
 ) -> Result<Flow, Stop>
     requires { calls.now.rank.ranks ≤ MOST_RANKS }
-    ensures { Leaves (chosen (pure_expr test.now) (started (act calls.now.rank (calls_of calls.now) (pure_stmt then.now))) (otherwise calls.now.rank (calls_of calls.now) (option_map pure_stmt (option_copied other.entry)))) state.old replies.old result state.new replies.new }
+    ensures { Leaves (branch (pure_expr test.now) (started (act calls.now.rank (calls_of calls.now) (pure_stmt then.now))) (else_meaning calls.now.rank (calls_of calls.now) (option_map pure_stmt (option_copied other.entry)))) state.old replies.old result state.new replies.new }
 {
     if state.test(Some(test))? {
         return run(calls, then, state, replies);
@@ -397,8 +404,8 @@ fn run_if<'p>(
 /// A `return`.
 #[cycle(statements)]
 fn run_return<'p>(
-    calls: &Calls<'p>,
-    value: &'p Option<Right>,
+    calls: &CallContext<'p>,
+    value: &'p Option<TypedRight>,
     state: &mut RankState<'p>,
     replies: &mut Replies,
 ) -> Result<Flow, Stop>
@@ -418,8 +425,8 @@ fn run_return<'p>(
 #[cycle(statements)]
 #[tactic(auto, using(c_program::proofs::StmtViewed::stmt_views))]
 fn run_part<'p>(
-    calls: &Calls<'p>,
-    part: &'p Part,
+    calls: &CallContext<'p>,
+    part: &'p TypedPart,
     state: &mut RankState<'p>,
     replies: &mut Replies,
 ) -> Result<Flow, Stop>
@@ -428,19 +435,19 @@ fn run_part<'p>(
 {
     take_step(state)?;
     match part {
-        Part::Declaration(declaration) => {
+        TypedPart::Declaration(declaration) => {
             declare_all(calls, &declaration.items, state, replies)?;
             Ok(Flow::Next)
         }
-        Part::Stmt(stmt) => act(calls, stmt, state, replies),
+        TypedPart::Stmt(stmt) => act(calls, stmt, state, replies),
     }
 }
 
 /// Parts one after another.
 #[cycle(statements)]
 fn run_list<'p>(
-    calls: &Calls<'p>,
-    parts: &'p [Part],
+    calls: &CallContext<'p>,
+    parts: &'p [TypedPart],
     state: &mut RankState<'p>,
     replies: &mut Replies,
 ) -> Result<Flow, Stop>
@@ -459,8 +466,8 @@ fn run_list<'p>(
 /// A block, behind which its variables are gone.
 #[cycle(statements)]
 fn run_block<'p>(
-    calls: &Calls<'p>,
-    parts: &'p [Part],
+    calls: &CallContext<'p>,
+    parts: &'p [TypedPart],
     state: &mut RankState<'p>,
     replies: &mut Replies,
 ) -> Result<Flow, Stop>

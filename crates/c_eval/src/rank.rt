@@ -1,12 +1,12 @@
 //! A rank of a C program, which evaluates anew at each call.
 ghost use Rattle.std.specs.Prelude.{◌≡◌, ◌≤◌, ◌<◌, ◌∷◌, [], IfOk, false, pos};
 ghost use Rattle.c_program.specs.declared.state.Passed.TheVariants.{Number};
-ghost use Rattle.c_program.specs.Courses.{after, asks_last, ended};
+ghost use Rattle.c_program.specs.Courses.{after_replies, asks_last, ended};
 ghost use Rattle.c_program.specs.State.{State};
-ghost use Rattle.c_eval.specs.Parts.{calls_of};
+ghost use Rattle.c_eval.specs.inside.Parts.{calls_of};
 ghost use Rattle.c_eval.specs.Ranks.{Wants};
 
-use crate::calls::Calls;
+use crate::calls::CallContext;
 use crate::evaluate::call_function;
 use crate::outcome::{Replies, Stop};
 use c_program::CProgram;
@@ -40,9 +40,9 @@ impl<'p> Model for EvalRank<'p> {
     ghost use Rattle.run_model.specs.Program.{Standing};
     ghost use Rattle.c_program.specs.declared.program.CProgram.{CProgram};
     ghost use Rattle.c_program.specs.View.{pure_program};
-    ghost use Rattle.c_eval.specs.Parts.{calls_of};
+    ghost use Rattle.c_eval.specs.inside.Parts.{calls_of};
     ghost use Rattle.c_eval.specs.Ranks.{IsRankAt};
-    ghost use Rattle.c_program.specs.contracts.statement.Part as part;
+    ghost use Rattle.c_program.specs.contracts.statement.TypedPart as part;
     ghost use Rattle.std.specs.Coded.{codes};
 
     ghost Value = { Standing CProgram };
@@ -81,7 +81,7 @@ impl<'p> RankRun for EvalRank<'p> {
     ghost standing = { λ r. r };
 
     fn want(&mut self) -> Result<Want, AllocError> {
-        let calls = Calls {
+        let calls = CallContext {
             alloc: self.alloc,
             rank: self.rank,
             functions: &self.program.functions,
@@ -113,13 +113,13 @@ impl<'p> RankRun for EvalRank<'p> {
 /// What the rank wants after these replies, where the evaluation of its program begins at the state; the state is then
 /// that of this call.
 fn evaluate<'p>(
-    calls: &Calls<'p>,
+    calls: &CallContext<'p>,
     main: usize,
     replies: &[Reply],
     state: &mut RankState<'p>,
 ) -> Result<Want, AllocError>
     requires { calls.now.rank.ranks ≤ MOST_RANKS }
-    ensures { IfOk result (λ want. Wants (after (calls_of calls.now main (Number (pos 1) ∷ []) state.old (λ v s. ended s)) replies.now) want state.new) }
+    ensures { IfOk result (λ want. Wants (after_replies (calls_of calls.now main (Number (pos 1) ∷ []) state.old (λ v s. ended s)) replies.now) want state.new) }
 {
     let mut rest = Replies::of(replies);
     match call_function(calls, main, &[Passed::Number(1)], state, &mut rest) {
@@ -133,7 +133,7 @@ fn evaluate<'p>(
 
 /// A call that no other follows.
 fn last(call: Call, rest: &mut Replies) -> Want
-    ensures { (s : State) → Wants (after (asks_last call s) rest.old) result s }
+    ensures { (s : State) → Wants (after_replies (asks_last call s) rest.old) result s }
 {
     match rest.next() {
         None => Want::Ask(call),

@@ -6,11 +6,11 @@ use Rattle.c_grammar.specs.declared.terminal.Span.{Span}
 use Rattle.c_grammar.specs.declared.terminal.Terminal.{Terminal}
 use Rattle.c_grammar.specs.Tree as t
 use Rattle.c_grammar.specs.Symbols.{level_of, is, isnt, is_sign, is_assign, is_step, is_kind, starts_expr}
-use Rattle.c_grammar.specs.Grammar.{at, spell, spell_place, spell_links, Is, AreLinks, earlier, deep, deep_place}
-use Rattle.c_grammar.specs.StmtGrammar.{spell_maybe, IsMaybe, spell_comma_list, IsCommaList, spell_argument, IsArgument, spell_call, IsCall, spell_right, IsRight, spell_simple, IsSimple, spell_initial, IsInitializer, spell_item, IsItem, spell_declaration, IsDeclaration, spell_start, IsStart}
+use Rattle.c_grammar.specs.Grammar.{at, spell, spell_place, spell_links, IsExpr, AreLinks, earlier, deep, deep_place}
+use Rattle.c_grammar.specs.StmtGrammar.{spell_maybe, IsMaybe, spell_comma_list, IsCommaList, spell_argument, IsArgument, spell_call, IsCall, spell_right, IsRight, spell_simple, IsSimple, spell_initial, IsInitializer, spell_item, IsItem, spell_declaration, IsDeclaration, spell_start, IsForStart}
 use Rattle.c_grammar.specs.Depth.{deep_maybe, deep_comma_list, deep_argument, deep_call, deep_right, deep_simple, deep_initial, deep_item, deep_declaration, deep_start}
 use Rattle.c_grammar.specs.Reading.{Answer, first_of, heads, maybe}
-use Rattle.c_grammar.specs.StmtReading.{comma_list_of, argument_by, argument_of, call_of, calls, right_of, change_of, simple_of, initial_of, item_of, declaration_of, start_of}
+use Rattle.c_grammar.specs.StmtReading.{read_comma_list, argument_by, read_argument, read_call, calls, read_right, read_change, read_simple, read_initial, read_declarator, read_declaration, read_for_start}
 use Rattle.c_grammar.proofs.Local.{test_cases}
 use Rattle.c_grammar.proofs.Laws.{Laws, last, is_symbol, not_both}
 use Rattle.c_grammar.proofs.Sequence.{Seq, done, token, pick, part, peek, run, Choice, tree, spells, Fits, Chosen, laws_of}
@@ -45,7 +45,7 @@ links_no_call : (k : ℕ) (ls : t.Links) (rest : List Terminal) → AreLinks k l
 links_no_call k t.no_link rest g l h = h
 links_no_call k (t.link x p e ls) rest g l h = elim (test_cases (is w.OpenParen x)) [ inl q ↦ absurd (let z = ap level_of (is_symbol w.OpenParen x q) in omega (arith, g.0)) | inr q ↦ q ]
 
-pub no_call : (e : t.Expr) (rest : List Terminal) → Is e → heads (is w.OpenParen) rest ≡ false → calls (spell e rest) ≡ false
+pub no_call : (e : t.Expr) (rest : List Terminal) → IsExpr e → heads (is w.OpenParen) rest ≡ false → calls (spell e rest) ≡ false
 no_call (t.number p) rest g h = refl
 no_call (t.read (t.whole m)) rest g h = rw h refl
 no_call (t.read (t.cell m p e q)) rest g h = refl
@@ -146,18 +146,18 @@ module _ (n : ℕ) (expr index : List Terminal → Answer t.Expr) (le : ExprLaws
     follows = λ rest o. (heads_isnt starts_expr w.Text (spell e rest) (expr_starts e g rest) refl, (heads_isnt starts_expr w.And (spell e rest) (expr_starts e g rest) refl, (o, tt)));
   }
 
-  pub argument_laws : Laws (argument_of expr index) spell_argument IsArgument (deep_argument n) (λ a rest. Over 11 rest)
-  unfolding argument_of
+  pub argument_laws : Laws (read_argument expr index) spell_argument IsArgument (deep_argument n) (λ a rest. Over 11 rest)
+  unfolding read_argument
   argument_laws = laws_of argument_seq argument_runs argument_spelling argument_good argument_chosen
 
-  arguments_laws : Laws (comma_list_of (argument_of expr index)) (spell_comma_list spell_argument) (IsCommaList IsArgument) (deep_comma_list spell_argument (deep_argument n)) (OverCommaList IsArgument (λ a rest. Over 11 rest))
+  arguments_laws : Laws (read_comma_list (read_argument expr index)) (spell_comma_list spell_argument) (IsCommaList IsArgument) (deep_comma_list spell_argument (deep_argument n)) (OverCommaList IsArgument (λ a rest. Over 11 rest))
   arguments_laws = comma_list_laws argument_laws (λ a p rest g. omega arith)
 
-  given_laws : Laws (maybe (isnt w.CloseParen) (comma_list_of (argument_of expr index))) (spell_maybe (spell_comma_list spell_argument))
+  given_laws : Laws (maybe (isnt w.CloseParen) (read_comma_list (read_argument expr index))) (spell_maybe (spell_comma_list spell_argument))
       (IsMaybe (IsCommaList IsArgument)) (deep_maybe (deep_comma_list spell_argument (deep_argument n))) (OverMaybe (isnt w.CloseParen) (OverCommaList IsArgument (λ a rest. Over 11 rest)))
   given_laws = maybe_laws arguments_laws (isnt w.CloseParen) arguments_start
 
-  abbrev call_behind : Span → Seq t.Call
+  abbrev call_behind : Span → Seq t.WrittenCall
   call_behind name = token w.OpenParen (λ o. part given_laws (λ given. token w.CloseParen (λ c. done (record { name = name; opening = o; arguments = given; closing = c }))))
 
   given_over : (o : Option (t.CommaList t.Argument)) (c : Span) (rest : List Terminal)
@@ -165,8 +165,8 @@ module _ (n : ℕ) (expr index : List Terminal → Answer t.Expr) (le : ExprLaws
   given_over None c rest = refl
   given_over (Some r) c rest = (refl, λ a h. omega arith)
 
-  pub call_laws : Laws (call_of expr index) spell_call IsCall (deep_call n) (λ c rest. Unit {0})
-  unfolding call_of
+  pub call_laws : Laws (read_call expr index) spell_call IsCall (deep_call n) (λ c rest. Unit {0})
+  unfolding read_call
   call_laws = laws_of (token w.Name call_behind) (λ ts. refl) (λ c rest. refl) (λ c g. g.0)
       (λ c g. record {
         choice = (c.name, (c.opening, (c.arguments, (c.closing, tt))));
@@ -176,11 +176,11 @@ module _ (n : ℕ) (expr index : List Terminal → Answer t.Expr) (le : ExprLaws
         follows = λ rest o. (given_over c.arguments c.closing rest, tt);
       })
 
-  call_takes : Takes (call_of expr index)
-  unfolding call_of
+  call_takes : Takes (read_call expr index)
+  unfolding read_call
   call_takes = token_takes call_behind
 
-  abbrev called_behind : t.Call → Seq t.Right
+  abbrev called_behind : t.WrittenCall → Seq t.Right
   called_behind c = done (t.called c)
 
   abbrev valued_behind : t.Expr → Seq t.Right
@@ -197,8 +197,8 @@ module _ (n : ℕ) (expr index : List Terminal → Answer t.Expr) (le : ExprLaws
   right_chosen (t.valued e) g = other (record { choice = (e, tt); of = refl; fits = (g, tt); depth = λ rest. last (deep (suc n) e rest); follows = λ rest o. (o, tt) })
       (λ rest o. no_call e rest g (over_isnt w.OpenParen 11 rest (omega arith) o))
 
-  pub right_laws : Laws (right_of expr index) spell_right IsRight (deep_right n) (λ r rest. Over 11 rest)
-  unfolding right_of
+  pub right_laws : Laws (read_right expr index) spell_right IsRight (deep_right n) (λ r rest. Over 11 rest)
+  unfolding read_right
   right_laws = fork_laws (part call_laws called_behind) (part le valued_behind) (λ ts. refl) (part_takes call_laws called_behind call_takes) (part_takes le valued_behind te)
       (λ c rest. refl) (λ c rest. refl) (λ c g. g.0) (λ c g. g.0) right_chosen
 
@@ -226,7 +226,7 @@ module _ (n : ℕ) (expr index : List Terminal → Answer t.Expr) (le : ExprLaws
   change_good (inr (p, inl c)) g = (g.0, g.1.0)
   change_good (inr (p, inr c)) g = (g.0, g.1.0, g.1.1.0)
 
-  abbrev invoke_behind : t.Call → Seq t.Simple
+  abbrev invoke_behind : t.WrittenCall → Seq t.Simple
   invoke_behind c = done (t.invoke c)
 
   step_no_call : (x : Symbol) → is_step x ≡ true → is w.Name x ≡ false
@@ -268,12 +268,12 @@ module _ (n : ℕ) (expr index : List Terminal → Answer t.Expr) (le : ExprLaws
     follows = λ rest o. (tt, tt);
   }) (λ rest o. refl)
 
-  pub simple_laws : Laws (simple_of expr index) spell_simple IsSimple (deep_simple n) (λ s rest. Over 11 rest)
-  unfolding simple_of change_of
+  pub simple_laws : Laws (read_simple expr index) spell_simple IsSimple (deep_simple n) (λ s rest. Over 11 rest)
+  unfolding read_simple read_change
   simple_laws = fork_laws (part call_laws invoke_behind) change_seq (λ ts. refl) (part_takes call_laws invoke_behind call_takes) change_takes
       (λ c rest. refl) change_spelling (λ c g. g.0) change_good simple_chosen
 
-  values_laws : Laws (comma_list_of expr) (spell_comma_list spell) (IsCommaList Is) (deep_comma_list spell (deep (suc n))) (OverCommaList Is (λ e rest. Over 11 rest))
+  values_laws : Laws (read_comma_list expr) (spell_comma_list spell) (IsCommaList IsExpr) (deep_comma_list spell (deep (suc n))) (OverCommaList IsExpr (λ e rest. Over 11 rest))
   values_laws = comma_list_laws le (λ a p rest g. omega arith)
 
   abbrev initial_behind : Span → Seq t.Initializer
@@ -304,8 +304,8 @@ module _ (n : ℕ) (expr index : List Terminal → Answer t.Expr) (le : ExprLaws
     follows = λ rest h. (refl, ((refl, λ a k. omega arith), tt));
   }
 
-  initial_laws : Laws (initial_of expr index) spell_initial IsInitializer (deep_initial n) (λ i rest. Over 11 rest)
-  unfolding initial_of
+  initial_laws : Laws (read_initial expr index) spell_initial IsInitializer (deep_initial n) (λ i rest. Over 11 rest)
+  unfolding read_initial
   initial_laws = laws_of (token w.Assign initial_behind) (λ ts. refl) initial_spelling initial_good initial_chosen
 
   initial_starts : (i : t.Initializer) → IsInitializer i → (rest : List Terminal) → heads (is w.Assign) (spell_initial i rest) ≡ true
@@ -321,8 +321,8 @@ module _ (n : ℕ) (expr index : List Terminal → Answer t.Expr) (le : ExprLaws
   item_over (Some (t.begun p r)) rest o = (refl, o)
   item_over (Some (t.braced p q values c)) rest o = (refl, o)
 
-  pub item_laws : Laws (item_of expr index) spell_item IsItem (deep_item n) (λ i rest. Over 11 rest)
-  unfolding item_of
+  pub item_laws : Laws (read_declarator expr index) spell_item IsItem (deep_item n) (λ i rest. Over 11 rest)
+  unfolding read_declarator
   item_laws = laws_of (part (place_laws n index li) item_behind) (λ ts. refl) (λ c rest. refl) (λ c g. (g.0, g.1.0))
       (λ i g. record {
         choice = (i.place, (i.initial, tt));
@@ -332,12 +332,12 @@ module _ (n : ℕ) (expr index : List Terminal → Answer t.Expr) (le : ExprLaws
         follows = λ rest o. let h = item_over i.initial rest o in (h.0, (h.1, tt));
       })
 
-  items_laws : Laws (comma_list_of (item_of expr index)) (spell_comma_list spell_item) (IsCommaList IsItem) (deep_comma_list spell_item (deep_item n)) (OverCommaList IsItem (λ i rest. Over 11 rest))
+  items_laws : Laws (read_comma_list (read_declarator expr index)) (spell_comma_list spell_item) (IsCommaList IsItem) (deep_comma_list spell_item (deep_item n)) (OverCommaList IsItem (λ i rest. Over 11 rest))
   items_laws = comma_list_laws item_laws (λ a p rest g. omega arith)
 
   -- a declaration stands before its `;`
-  pub declaration_laws : Laws (declaration_of expr index) spell_declaration IsDeclaration (deep_declaration n) (λ d rest. first_of rest ≡ Some w.Semicolon)
-  unfolding declaration_of
+  pub declaration_laws : Laws (read_declaration expr index) spell_declaration IsDeclaration (deep_declaration n) (λ d rest. first_of rest ≡ Some w.Semicolon)
+  unfolding read_declaration
   declaration_laws = laws_of (pick is_kind w.Int refl (λ s. part items_laws (λ items. done (record {
     kind = s.symbol;
     at = s.span;
@@ -359,7 +359,7 @@ module _ (n : ℕ) (expr index : List Terminal → Answer t.Expr) (le : ExprLaws
   start_spelling (inr (inl c)) rest = refl
   start_spelling (inr (inr c)) rest = refl
 
-  start_good : (c : Choice start_seq) → Fits start_seq c → IsStart (tree start_seq c)
+  start_good : (c : Choice start_seq) → Fits start_seq c → IsForStart (tree start_seq c)
   start_good (inl c) g = tt
   start_good (inr (inl c)) g = g.0
   start_good (inr (inr c)) g = g.0
@@ -370,7 +370,7 @@ module _ (n : ℕ) (expr index : List Terminal → Answer t.Expr) (le : ExprLaws
   simple_kind w.Decrement h = refl
   simple_kind _ h = absurd (cc)
 
-  start_chosen : (s : t.ForStart) → IsStart s → Chosen start_seq (deep_start n) (λ s rest. first_of rest ≡ Some w.Semicolon) s
+  start_chosen : (s : t.ForStart) → IsForStart s → Chosen start_seq (deep_start n) (λ s rest. first_of rest ≡ Some w.Semicolon) s
   start_chosen t.no_start g = record { choice = inl tt; of = refl; fits = tt; depth = λ rest. refl; follows = λ rest o. (at_heads (is w.Semicolon) w.Semicolon rest o, tt) }
   start_chosen (t.declared_start d) g = record {
     choice = inr (inl (d, tt));
@@ -390,6 +390,6 @@ module _ (n : ℕ) (expr index : List Terminal → Answer t.Expr) (le : ExprLaws
     );
   }
 
-  pub start_laws : Laws (start_of expr index) spell_start IsStart (deep_start n) (λ s rest. first_of rest ≡ Some w.Semicolon)
-  unfolding start_of
+  pub start_laws : Laws (read_for_start expr index) spell_start IsForStart (deep_start n) (λ s rest. first_of rest ≡ Some w.Semicolon)
+  unfolding read_for_start
   start_laws = laws_of start_seq (λ ts. refl) start_spelling start_good start_chosen

@@ -3,7 +3,7 @@ use Rattle.std.proofs.Common.{◌≡◌, ◌⊎◌, inl, inr, ◌<◌, ◌≤◌
 use Rattle.c_grammar.specs.declared.terminal.Terminal.{Terminal}
 use Rattle.c_lex.specs.declared.fault.Why.TheVariants.{Unexpected, TooDeep}
 use Rattle.c_grammar.specs.Reading.{Fault, Answer, refuse}
-use Rattle.c_grammar.specs.Faults.{IsText, NoneGoesOn, IsUnexpected, IsTooDeep}
+use Rattle.c_grammar.specs.Faults.{IsTextOf, NoneGoesOn, IsUnexpected, IsTooDeep}
 use Rattle.c_grammar.proofs.Local.{IsLocal, rest_of, with_rest}
 use Rattle.c_grammar.proofs.Laws.{outcome, GoesOn, unexpected}
 
@@ -107,5 +107,5 @@ module _ {A : Type 0} (spelled : A → List Terminal) (Good : A → Type 0) (dee
       it (Some c) a d e = let g : ◌≡◌ {A = Answer A} (refuse TooDeep c) (refuse TooDeep d) = e in
           let f : Fault = record { why = TooDeep; rest = c } in let f' : Fault = record { why = TooDeep; rest = d } in let q : f ≡ f' = cc in ap (λ (f : Fault). Some f.rest) q
 
-  pub text_read : (ts : List Terminal) (a : A) → IsText spelled Good deepest ts a → whole ts ≡ Ok (a, [])
+  pub text_read : (ts : List Terminal) (a : A) → IsTextOf spelled Good deepest ts a → whole ts ≡ Ok (a, [])
   text_read ts a h = ap whole h.1 ∙ complete a h.0 ∙ ap (λ o. outcome o a []) h.2

@@ -6,11 +6,11 @@ use Rattle.c_grammar.specs.declared.terminal.Span.{Span}
 use Rattle.c_grammar.specs.declared.terminal.Terminal.{Terminal}
 use Rattle.c_grammar.specs.Tree.{Expr, number, read, field, paren, unary, chain, choice, Place, whole, cell, Links, no_link, link}
 use Rattle.c_grammar.specs.Symbols.{level_of, is_sign, is, starts_expr}
-use Rattle.c_grammar.specs.Grammar.{at, spell, spell_place, spell_links, precedence, IsSome, Is, IsPlace, AreLinks, earlier, deep, deep_place, deep_links}
+use Rattle.c_grammar.specs.Grammar.{at, spell, spell_place, spell_links, precedence, IsSome, IsExpr, IsPlace, AreLinks, earlier, deep, deep_place, deep_links}
 use Rattle.c_grammar.specs.StmtGrammar.{spell_list, AreAll}
 use Rattle.c_grammar.specs.Depth.{deep_list}
 use Rattle.c_grammar.specs.View.{Piece, links_from}
-use Rattle.c_grammar.specs.Reading.{Answer, ◌>>=◌, first_of, heads, too_deep, many, place_of, unary_by, unary_of, link_of, chained, bin_of, choice_of, expr_at}
+use Rattle.c_grammar.specs.Reading.{Answer, ◌>>=◌, first_of, heads, too_deep, many, read_place, unary_by, read_unary, read_link, chain_or_operand, read_binary, read_choice, expr_at}
 use Rattle.c_grammar.proofs.Local.{test_cases}
 use Rattle.c_grammar.proofs.Laws.{Laws, last, is_symbol, not_both, zero_span}
 use Rattle.c_grammar.proofs.Sequence.{Seq, done, token, pick, part, peek, switch, run, Choice, tree, spells, Fits, Chosen, laws_of}
@@ -83,10 +83,10 @@ op_level (suc (suc (suc (suc (suc (suc (suc (suc (suc (suc zero)))))))))) l m = 
 op_level (suc (suc (suc (suc (suc (suc (suc (suc (suc (suc (suc n))))))))))) l m = absurd (omega arith)
 
 abbrev pub UpTo : ℕ → Expr → Type 0
-UpTo k e = Is e × (precedence e ≤ k)
+UpTo k e = IsExpr e × (precedence e ≤ k)
 
 abbrev pub ExprLaws : ℕ → (List Terminal → Answer Expr) → Type 0
-ExprLaws n reader = Laws reader spell Is (deep n) (λ e rest. Over 11 rest)
+ExprLaws n reader = Laws reader spell IsExpr (deep n) (λ e rest. Over 11 rest)
 
 abbrev pub RankLaws : ℕ → ℕ → (List Terminal → Answer Expr) → Type 0
 RankLaws n k reader = Laws reader spell (UpTo k) (deep n) (λ e rest. Over k rest)
@@ -119,8 +119,8 @@ module _ (n : ℕ) (index : List Terminal → Answer Expr) (li : ExprLaws n inde
     follows = λ rest o. (refl, (omega arith, tt));
   }
 
-  pub place_laws : Laws (place_of index) spell_place IsPlace (deep_place n) PlaceOver
-  unfolding place_of
+  pub place_laws : Laws (read_place index) spell_place IsPlace (deep_place n) PlaceOver
+  unfolding read_place
   place_laws = laws_of place_seq (λ ts. refl) place_spelling place_good place_chosen
 
 module _ (n : ℕ) (under : Bool → List Terminal → Answer Expr) (lt : ExprLaws n (under true)) (lf : RankLaws n 0 (under false)) where
@@ -234,8 +234,8 @@ module _ (n : ℕ) (under : Bool → List Terminal → Answer Expr) (lt : ExprLa
   unary_chosen (chain k e ls) g = absurd (omega (arith, g.1, g.0.0))
   unary_chosen (choice c p a q b) g = absurd (omega (arith, g.1))
 
-  pub unary_laws : RankLaws (suc n) 0 (unary_of under)
-  unfolding unary_of
+  pub unary_laws : RankLaws (suc n) 0 (read_unary under)
+  unfolding read_unary
   unary_laws = laws_of (switch unary_seq) (λ ts. unary_runs (first_of ts) ts) (λ c rest. unary_spelling c.0 c.1 rest) (λ c g. unary_good c.0 c.1 g) unary_chosen
 
 abbrev pub spell_piece : Piece → List Terminal → List Terminal
@@ -274,7 +274,7 @@ pieces_deep : (n : ℕ) (ls : Links) (rest : List Terminal) → deep_list spell_
 pieces_deep n no_link rest = refl
 pieces_deep n (link x p e ls) rest = ap (λ z. earlier (deep (suc n) e z) (deep_list spell_piece (deep_piece n) (pieces_of ls) rest)) (pieces_spell ls rest) ∙ ap (λ z. earlier (deep (suc n) e (spell_links ls rest)) z) (pieces_deep n ls rest)
 
-pieces_chained : (k : ℕ) (e : Expr) (ls : Links) → IsSome ls → chained k e (pieces_of ls) ≡ chain k e ls
+pieces_chained : (k : ℕ) (e : Expr) (ls : Links) → IsSome ls → chain_or_operand k e (pieces_of ls) ≡ chain k e ls
 pieces_chained k e no_link h = absurd h
 pieces_chained k e (link x p a ls) h = ap (λ z. chain k e (link x p a z)) (pieces_back ls)
 
@@ -286,7 +286,7 @@ module _ (n k : ℕ) (low : k < 10) (below : List Terminal → Answer Expr) (l :
     operand = e;
   })))
 
-  pub link_laws : Laws (link_of below (suc k)) spell_piece (IsPiece k) (deep_piece n) (λ p rest. Over k rest)
+  pub link_laws : Laws (read_link below (suc k)) spell_piece (IsPiece k) (deep_piece n) (λ p rest. Over k rest)
   link_laws = laws_of link_seq (λ ts. refl) (λ c rest. refl) (λ c g. (g.0, g.1.0))
       (λ p g. record {
         choice = (at p.operator p.at, (p.operand, tt));
@@ -296,21 +296,21 @@ module _ (n k : ℕ) (low : k < 10) (below : List Terminal → Answer Expr) (l :
         follows = λ rest o. (o, tt);
       })
 
-  pub links_laws : Laws (many (λ x. level_of x == suc k) (link_of below (suc k))) (spell_list spell_piece) (AreAll (IsPiece k))
+  pub links_laws : Laws (many (λ x. level_of x == suc k) (read_link below (suc k))) (spell_list spell_piece) (AreAll (IsPiece k))
       (deep_list spell_piece (deep_piece n)) (λ list rest. OverMany (λ x. level_of x == suc k) (IsPiece k) (λ p rest. Over k rest) rest)
   links_laws = many_laws link_laws (λ x. level_of x == suc k) (λ p g rest. g.0) (λ p q g h rest. let e = eqb-true _ _ h.0 in let s = level_strength q.operator (omega arith) in omega arith)
 
   abbrev pub bin_behind : Expr → Seq Expr
-  bin_behind e = part links_laws (λ ps. done (chained (suc k) e ps))
+  bin_behind e = part links_laws (λ ps. done (chain_or_operand (suc k) e ps))
 
   abbrev bin_seq : Seq Expr
   bin_seq = part l bin_behind
 
-  bin_spelling : (e : Expr) (ps : List Piece) (rest : List Terminal) → spell (chained (suc k) e ps) rest ≡ spell e (spell_list spell_piece ps rest)
+  bin_spelling : (e : Expr) (ps : List Piece) (rest : List Terminal) → spell (chain_or_operand (suc k) e ps) rest ≡ spell e (spell_list spell_piece ps rest)
   bin_spelling e [] rest = refl
   bin_spelling e (p ∷ ps) rest = ap (λ z. spell e (at p.operator p.at ∷ spell p.operand z)) (links_spell ps rest)
 
-  bin_good : (e : Expr) (ps : List Piece) → UpTo k e → AreAll (IsPiece k) ps → UpTo (suc k) (chained (suc k) e ps)
+  bin_good : (e : Expr) (ps : List Piece) → UpTo k e → AreAll (IsPiece k) ps → UpTo (suc k) (chain_or_operand (suc k) e ps)
   bin_good e [] g h = (g.0, let l = g.1 in omega arith)
   bin_good e (p ∷ ps) g h = ((omega arith, omega arith, (let l = g.1 in omega arith), g.0, tt, links_good k (p ∷ ps) h), omega arith)
 
@@ -323,7 +323,7 @@ module _ (n k : ℕ) (low : k < 10) (below : List Terminal → Answer Expr) (l :
     follows = λ rest o. (omega arith, ((over_level k rest o, λ p h. omega arith), tt));
   }
 
-  bin_top : (e : Expr) → Is e → precedence e ≡ suc k → Chosen bin_seq (deep (suc n)) (λ e rest. Over (suc k) rest) e
+  bin_top : (e : Expr) → IsExpr e → precedence e ≡ suc k → Chosen bin_seq (deep (suc n)) (λ e rest. Over (suc k) rest) e
   bin_top (chain j e ls) g r = record {
     choice = (e, (pieces_of ls, tt));
     of = pieces_chained (suc k) e ls g.4 ∙ ap (λ z. chain z e ls) (sym r);
@@ -339,19 +339,19 @@ module _ (n k : ℕ) (low : k < 10) (below : List Terminal → Answer Expr) (l :
   bin_top (choice c p a q b) g r = absurd (omega arith)
   bin_top _ g r = absurd (omega arith)
 
-  pub bin_more : RankLaws (suc n) (suc k) (λ ts. below ts >>= λ e. many (λ x. level_of x == suc k) (link_of below (suc k)) e.1 >>= λ ps. Ok (chained (suc k) e.0 ps.0, ps.1))
+  pub bin_more : RankLaws (suc n) (suc k) (λ ts. below ts >>= λ e. many (λ x. level_of x == suc k) (read_link below (suc k)) e.1 >>= λ ps. Ok (chain_or_operand (suc k) e.0 ps.0, ps.1))
   bin_more = laws_of bin_seq (λ ts. refl) (λ c rest. bin_spelling c.0 c.1.0 rest) (λ c g. bin_good c.0 c.1.0 g.0 g.1.0)
       (λ e g. elim (test_cases (precedence e == suc k)) [
         | inl h ↦ bin_top e g.0 (eqb-true _ _ h)
         | inr h ↦ bin_low e (g.0, let d : precedence e ≡ suc k → ⊥ = λ q. not_both (precedence e == suc k) (eq-eqb _ _ q) h in let l = g.1 in omega arith)
       ])
 
-pub bin_laws : (n : ℕ) (operand : List Terminal → Answer Expr) → RankLaws (suc n) 0 operand → (k : ℕ) → k < 11 → RankLaws (suc n) k (bin_of operand k)
-unfolding bin_of
+pub bin_laws : (n : ℕ) (operand : List Terminal → Answer Expr) → RankLaws (suc n) 0 operand → (k : ℕ) → k < 11 → RankLaws (suc n) k (read_binary operand k)
+unfolding read_binary
 bin_laws n operand l zero h = l
-bin_laws n operand l (suc k) h = bin_more n k (omega arith) (bin_of operand k) (bin_laws n operand l k (omega arith))
+bin_laws n operand l (suc k) h = bin_more n k (omega arith) (read_binary operand k) (bin_laws n operand l k (omega arith))
 
-module _ (n : ℕ) (under : Bool → List Terminal → Answer Expr) (lt : ExprLaws n (under true)) (lb : RankLaws (suc n) 10 (bin_of (unary_of under) 10)) where
+module _ (n : ℕ) (under : Bool → List Terminal → Answer Expr) (lt : ExprLaws n (under true)) (lb : RankLaws (suc n) 10 (read_binary (read_unary under) 10)) where
   abbrev pub choice_behind : Expr → Seq Expr
   choice_behind c = peek (is w.Question) (token w.Question (λ p. part lt (λ a. token w.Colon (λ q. part lt (λ b. done (choice c p a q b)))))) (done c)
 
@@ -362,7 +362,7 @@ module _ (n : ℕ) (under : Bool → List Terminal → Answer Expr) (lt : ExprLa
   choice_spelling (e, inl c) rest = refl
   choice_spelling (e, inr c) rest = refl
 
-  choice_good : (c : Choice choice_seq) → Fits choice_seq c → Is (tree choice_seq c)
+  choice_good : (c : Choice choice_seq) → Fits choice_seq c → IsExpr (tree choice_seq c)
   choice_good (e, inl c) g = ((let l = g.0.1 in omega arith), g.0.0, g.1.0, g.1.1.0)
   choice_good (e, inr c) g = g.0.0
 
@@ -375,7 +375,7 @@ module _ (n : ℕ) (under : Bool → List Terminal → Answer Expr) (lt : ExprLa
     follows = λ rest o. (omega arith, (over_isnt w.Question 11 rest (omega arith) o, tt));
   }
 
-  choice_chosen : (e : Expr) → Is e → Chosen choice_seq (deep (suc n)) (λ e rest. Over 11 rest) e
+  choice_chosen : (e : Expr) → IsExpr e → Chosen choice_seq (deep (suc n)) (λ e rest. Over 11 rest) e
   choice_chosen (chain k e ls) g = choice_low (chain k e ls) (g, let l = g.1 in omega arith)
   choice_chosen (choice c p a q b) g = record {
     choice = (c, inl (p, (a, (q, (b, tt)))));
@@ -390,8 +390,8 @@ module _ (n : ℕ) (under : Bool → List Terminal → Answer Expr) (lt : ExprLa
   choice_chosen (paren p e q) g = choice_low (paren p e q) (g, omega arith)
   choice_chosen (unary x p e) g = choice_low (unary x p e) (g, omega arith)
 
-  pub choice_laws : ExprLaws (suc n) (choice_of under)
-  unfolding choice_of
+  pub choice_laws : ExprLaws (suc n) (read_choice under)
+  unfolding read_choice
   choice_laws = laws_of choice_seq (λ ts. refl) choice_spelling choice_good choice_chosen
 
 pub place_starts : (p : Place) (rest : List Terminal) → heads starts_expr (spell_place p rest) ≡ true
@@ -405,7 +405,7 @@ sign_starts w.Not h = refl
 sign_starts w.Complement h = refl
 sign_starts _ h = absurd (cc)
 
-pub expr_starts : (e : Expr) → Is e → (rest : List Terminal) → heads starts_expr (spell e rest) ≡ true
+pub expr_starts : (e : Expr) → IsExpr e → (rest : List Terminal) → heads starts_expr (spell e rest) ≡ true
 expr_starts (number p) g rest = refl
 expr_starts (read place) g rest = place_starts place rest
 expr_starts (field place p m) g rest = place_starts place _
@@ -432,7 +432,7 @@ expr_begun k w.Complement p h = record {
 }
 expr_begun k _ p h = absurd (cc)
 
-pub precedence_bound : (e : Expr) → Is e → precedence e ≤ 11
+pub precedence_bound : (e : Expr) → IsExpr e → precedence e ≤ 11
 precedence_bound (number p) i = omega arith
 precedence_bound (read place) i = omega arith
 precedence_bound (field place p m) i = omega arith
@@ -467,4 +467,4 @@ expr_laws (suc n) = next (expr_laws n)
     next : AtDepth n → AtDepth (suc n)
     next l =
         let u = unary_laws n (expr_at n) l.full l.operand in
-        record { full = choice_laws n (expr_at n) l.full (bin_laws n (unary_of (expr_at n)) u 10 (omega arith)); operand = u }
+        record { full = choice_laws n (expr_at n) l.full (bin_laws n (read_unary (expr_at n)) u 10 (omega arith)); operand = u }

@@ -7,12 +7,12 @@ use Rattle.c_grammar.specs.declared.terminal.Span.{Span}
 use Rattle.c_grammar.specs.declared.terminal.Terminal.{Terminal}
 use Rattle.c_grammar.specs.Tree as t
 use Rattle.c_grammar.specs.Symbols.{is, isnt, is_result, starts_expr}
-use Rattle.c_grammar.specs.Grammar.{at, spell, Is, earlier, deep}
-use Rattle.c_grammar.specs.StmtGrammar.{spell_maybe, IsMaybe, spell_list, AreAll, spell_symbol, spell_name, spell_comma_list, IsCommaList, spell_part, spell_parts, AreParts, spell_parameter, IsParameter, spell_parameters, AreParameters, spell_head, IsHead, is_named, spell_value, IsValue, spell_external, IsExternal, spell_tree, AreExternals}
+use Rattle.c_grammar.specs.Grammar.{at, spell, IsExpr, earlier, deep}
+use Rattle.c_grammar.specs.StmtGrammar.{spell_maybe, IsMaybe, spell_list, AreAll, spell_symbol, spell_name, spell_comma_list, IsCommaList, spell_part, spell_parts, AreParts, spell_parameter, IsParameter, spell_parameters, AreParameters, spell_head, IsHead, all_named, spell_value, IsValue, spell_external, IsExternal, spell_tree, AreExternals}
 use Rattle.c_grammar.specs.Depth.{deep_maybe, deep_list, deep_comma_list, deep_part, deep_parts, deep_parameter, deep_parameters, deep_head, deep_external, deep_tree}
 use Rattle.c_grammar.specs.StmtView.{parts_from}
 use Rattle.c_grammar.specs.Reading.{Answer, ◌>>=◌, first_of, heads, expect, maybe, many, expr_at}
-use Rattle.c_grammar.specs.StmtReading.{comma_list_of, part_at, name_maybe, parameter_by, parameter_of, parameters_by, head_of, value_of, body_of, head_tail, external_with, external_of, program_of}
+use Rattle.c_grammar.specs.StmtReading.{read_comma_list, part_at, name_maybe, parameter_by, read_parameter, parameters_by, read_head, read_value, read_body, head_tail, external_with, read_external, read_whole_text}
 use Rattle.c_grammar.proofs.Laws.{Laws, last}
 use Rattle.c_grammar.proofs.Sequence.{Seq, done, token, pick, part, peek, switch, refused, run, Choice, tree, spells, Fits, Follows, depths, Chosen, laws_of}
 use Rattle.c_grammar.proofs.Lists.{expect_laws, maybe_laws, many_laws, comma_list_laws, times_laws, OverMaybe, OverMany, OverCommaList, turns_end}
@@ -37,7 +37,7 @@ abbrev pub ParameterOver : t.Parameter → List Terminal → Type 0
 ParameterOver p rest = (heads (is w.Name) rest ≡ false) × (heads (is w.Times) rest ≡ false) × (heads (is w.OpenBracket) rest ≡ false)
 
 module _ (n : ℕ) (index : List Terminal → Answer t.Expr) (li : ExprLaws n index) where
-  length_laws : Laws (maybe (isnt w.CloseBracket) index) (spell_maybe spell) (IsMaybe Is) (deep_maybe (deep n)) (OverMaybe (isnt w.CloseBracket) (λ e rest. Over 11 rest))
+  length_laws : Laws (maybe (isnt w.CloseBracket) index) (spell_maybe spell) (IsMaybe IsExpr) (deep_maybe (deep n)) (OverMaybe (isnt w.CloseBracket) (λ e rest. Over 11 rest))
   length_laws = maybe_laws li (isnt w.CloseBracket) (λ e g rest. heads_other starts_expr w.CloseBracket (spell e rest) (expr_starts e g rest) refl)
 
   length_over : (o : Option t.Expr) (c : Span) (rest : List Terminal) → OverMaybe (isnt w.CloseBracket) (λ e rest. Over 11 rest) o (at w.CloseBracket c ∷ rest)
@@ -141,11 +141,11 @@ module _ (n : ℕ) (index : List Terminal → Answer t.Expr) (li : ExprLaws n in
     follows = λ rest h. (refl, (not_star name _ refl, (name_over name _ refl, tt)));
   }
 
-  pub parameter_laws : Laws (parameter_of index) spell_parameter IsParameter (deep_parameter n) ParameterOver
-  unfolding parameter_of
+  pub parameter_laws : Laws (read_parameter index) spell_parameter IsParameter (deep_parameter n) ParameterOver
+  unfolding read_parameter
   parameter_laws = laws_of (switch parameter_seq) (λ ts. parameter_runs (first_of ts) ts) (λ c rest. parameter_spelling c.0 c.1 rest) (λ c g. parameter_good c.0 c.1 g) parameter_chosen
 
-  list_laws : Laws (comma_list_of (parameter_of index)) (spell_comma_list spell_parameter) (IsCommaList IsParameter) (deep_comma_list spell_parameter (deep_parameter n)) (OverCommaList IsParameter ParameterOver)
+  list_laws : Laws (read_comma_list (read_parameter index)) (spell_comma_list spell_parameter) (IsCommaList IsParameter) (deep_comma_list spell_parameter (deep_parameter n)) (OverCommaList IsParameter ParameterOver)
   list_laws = comma_list_laws parameter_laws (λ p q rest g. (refl, refl, refl))
 
   abbrev comma_list_seq : Seq t.Parameters
@@ -227,8 +227,8 @@ module _ (n : ℕ) (index : List Terminal → Answer t.Expr) (li : ExprLaws n in
   parameters_laws : Laws (λ ts. parameters_by index ts (first_of ts)) spell_parameters AreParameters (deep_parameters n) Closed
   parameters_laws = laws_of (switch parameters_seq) (λ ts. parameters_runs (first_of ts) ts) (λ c rest. parameters_spelling c.0 c.1 rest) (λ c g. parameters_good c.0 c.1 g) parameters_chosen
 
-  pub head_laws : Laws (head_of index) spell_head IsHead (deep_head n) (λ h rest. Unit {0})
-  unfolding head_of
+  pub head_laws : Laws (read_head index) spell_head IsHead (deep_head n) (λ h rest. Unit {0})
+  unfolding read_head
   head_laws = laws_of
       (pick is_result w.Int refl (λ s. token w.Name (λ name. token w.OpenParen (λ o. part parameters_laws (λ listed. token w.CloseParen (λ c.
       done (record { result = s.symbol; at = s.span; name = name; opening = o; listed = listed; closing = c })))))))
@@ -277,8 +277,8 @@ minus_first : (o : Option Span) (p : Span) (rest : List Terminal) → heads (is 
 minus_first None p rest = refl
 minus_first (Some m) p rest = refl
 
-value_laws : Laws value_of spell_value IsValue (λ v rest. None) (λ v rest. Unit {0})
-unfolding value_of
+value_laws : Laws read_value spell_value IsValue (λ v rest. None) (λ v rest. Unit {0})
+unfolding read_value
 value_laws = laws_of value_seq (λ ts. refl) (λ c rest. refl) (λ c g. g.1.1.0.0)
     (λ v g. record {
       choice = (v.opens, (v.minus, (v.number, (v.closes, tt))));
@@ -299,7 +299,7 @@ module _ (index : List Terminal → Answer t.Expr) (li : ExprLaws 63 index) (par
   body_seq h true = token w.OpenBrace (λ o. part (parts_laws 64 parts lp) (λ ps. token w.CloseBrace (λ c. done (t.function h o (parts_from ps) c))))
   body_seq h false = refused (prototype_seq h)
 
-  body_runs : (h : t.Head) (b : Bool) (ts : List Terminal) → body_of parts h b ts ≡ run (body_seq h b) ts
+  body_runs : (h : t.Head) (b : Bool) (ts : List Terminal) → read_body parts h b ts ≡ run (body_seq h b) ts
   body_runs h true ts = refl
   body_runs h false ts = refl
 
@@ -307,7 +307,7 @@ module _ (index : List Terminal → Answer t.Expr) (li : ExprLaws 63 index) (par
   body_spelling h true c rest = ap (λ z. spell_head h (at w.OpenBrace c.0 ∷ z)) (parts_spell c.1.0 (at w.CloseBrace c.1.1.0 ∷ rest))
   body_spelling h false c rest = refl
 
-  body_good : (h : t.Head) (b : Bool) (c : Choice (body_seq h b)) → is_named h.listed ≡ b → IsHead h → Fits (body_seq h b) c → IsExternal (tree (body_seq h b) c)
+  body_good : (h : t.Head) (b : Bool) (c : Choice (body_seq h b)) → all_named h.listed ≡ b → IsHead h → Fits (body_seq h b) c → IsExternal (tree (body_seq h b) c)
   body_good h true c e i g = (i, e, parts_good c.1.0 g.0)
   body_good h false c e i g = i
 
@@ -332,37 +332,37 @@ module _ (index : List Terminal → Answer t.Expr) (li : ExprLaws 63 index) (par
   }
 
   abbrev behind_head : t.Head → Seq t.ExternalDeclaration
-  behind_head h = peek (is w.OpenBrace) (body_seq h (is_named h.listed)) (prototype_seq h)
+  behind_head h = peek (is w.OpenBrace) (body_seq h (all_named h.listed)) (prototype_seq h)
 
   abbrev external_seq : Seq t.ExternalDeclaration
   external_seq = peek (is w.Define) define_seq (part (head_laws 63 index li) behind_head)
 
   tail_runs : (h : t.Head) (ts : List Terminal) → head_tail parts h ts ≡ run (behind_head h) ts
-  tail_runs h ts = ap (λ z. if heads (is w.OpenBrace) ts then z else run (prototype_seq h) ts) (body_runs h (is_named h.listed) ts)
+  tail_runs h ts = ap (λ z. if heads (is w.OpenBrace) ts then z else run (prototype_seq h) ts) (body_runs h (all_named h.listed) ts)
 
   external_runs : (ts : List Terminal) → external_with index parts ts ≡ run external_seq ts
   unfolding external_with
-  external_runs ts = ap (λ (f : t.Head × List Terminal → Answer t.ExternalDeclaration). if heads (is w.Define) ts then run define_seq ts else (head_of index ts >>= f)) (fun_ext (λ (h : t.Head × List Terminal). tail_runs h.0 h.1))
+  external_runs ts = ap (λ (f : t.Head × List Terminal → Answer t.ExternalDeclaration). if heads (is w.Define) ts then run define_seq ts else (read_head index ts >>= f)) (fun_ext (λ (h : t.Head × List Terminal). tail_runs h.0 h.1))
 
   external_spelling : (c : Choice external_seq) (rest : List Terminal) → spell_external (tree external_seq c) rest ≡ spells external_seq c rest
   external_spelling (inl c) rest = refl
-  external_spelling (inr (h, inl c)) rest = body_spelling h (is_named h.listed) c rest
+  external_spelling (inr (h, inl c)) rest = body_spelling h (all_named h.listed) c rest
   external_spelling (inr (h, inr c)) rest = refl
 
   external_good : (c : Choice external_seq) → Fits external_seq c → IsExternal (tree external_seq c)
   external_good (inl c) g = g.0
-  external_good (inr (h, inl c)) g = body_good h (is_named h.listed) c refl g.0 g.1
+  external_good (inr (h, inl c)) g = body_good h (all_named h.listed) c refl g.0 g.1
   external_good (inr (h, inr c)) g = g.0
 
   external_chosen : (p : t.ExternalDeclaration) → IsExternal p → Chosen external_seq deep_external (λ p rest. Unit {0}) p
   external_chosen (t.define x name v e) g = record { choice = inl (x, (name, (v, (e, tt)))); of = refl; fits = (g, tt); depth = λ rest. refl; follows = λ rest o. (refl, (tt, tt)) }
   external_chosen (t.function h o ps c) g =
-      let k = body h (is_named h.listed) o ps c g.1 g.2 in
+      let k = body h (all_named h.listed) o ps c g.1 g.2 in
       record {
         choice = inr (h, inl k.choice);
         of = k.of;
         fits = (g.0, k.fits);
-        depth = λ rest. ap (λ z. earlier (deep_head 63 h z) (depths (body_seq h (is_named h.listed)) k.choice rest)) (k.spelled rest)
+        depth = λ rest. ap (λ z. earlier (deep_head 63 h z) (depths (body_seq h (all_named h.listed)) k.choice rest)) (k.spelled rest)
             ∙ ap (λ z. earlier (deep_head 63 h (at w.OpenBrace o ∷ spell_parts ps (at w.CloseBrace c ∷ rest))) z) (k.depth rest);
         follows = λ rest u. (symbol_isnt is_result w.Define h.result g.0.0 refl, (tt, (ap (λ z. heads (is w.OpenBrace) z) (k.spelled rest), k.follows rest)));
       }
@@ -377,7 +377,7 @@ module _ (index : List Terminal → Answer t.Expr) (li : ExprLaws 63 index) (par
   pub external_laws : Laws (external_with index parts) spell_external IsExternal deep_external (λ p rest. Unit {0})
   external_laws = laws_of external_seq external_runs external_spelling external_good external_chosen
 
-pub external_of_laws : Laws external_of spell_external IsExternal deep_external (λ p rest. Unit {0})
+pub external_of_laws : Laws read_external spell_external IsExternal deep_external (λ p rest. Unit {0})
 external_of_laws = external_laws (expr_at 63 true) (expr_laws 63).full (part_at 64) (stmts_laws 64).part
 
 pub external_starts : (p : t.ExternalDeclaration) → IsExternal p → (rest : List Terminal) → heads (λ x. true) (spell_external p rest) ≡ true
@@ -385,11 +385,11 @@ external_starts (t.define x name v e) g rest = refl
 external_starts (t.function h o ps c) g rest = refl
 external_starts (t.prototype h p) g rest = refl
 
-pub program_laws : Laws program_of spell_tree AreExternals deep_tree (λ externals rest. OverMany {A = t.ExternalDeclaration} (λ x. true) IsExternal (λ p rest. Unit {0}) rest)
-unfolding program_of
+pub program_laws : Laws read_whole_text spell_tree AreExternals deep_tree (λ externals rest. OverMany {A = t.ExternalDeclaration} (λ x. true) IsExternal (λ p rest. Unit {0}) rest)
+unfolding read_whole_text
 program_laws = many_laws external_of_laws (λ x. true) external_starts (λ p q g h rest. tt)
 
 -- a program is read to its end
-pub program_ends : (ts : List Terminal) (y : t.Tree × List Terminal) → program_of ts ≡ Ok y → y.1 ≡ []
-unfolding program_of
+pub program_ends : (ts : List Terminal) (y : t.Tree × List Terminal) → read_whole_text ts ≡ Ok y → y.1 ≡ []
+unfolding read_whole_text
 program_ends ts y h = turns_end external_of_laws external_starts (length ts) ts y (omega arith) h

@@ -6,7 +6,7 @@ use Rattle.c_grammar.specs.declared.terminal.Span.{Span}
 use Rattle.c_grammar.specs.declared.terminal.Terminal.{Terminal}
 use Rattle.c_grammar.specs.Tree.{Expr}
 use Rattle.c_grammar.specs.Symbols.{is}
-use Rattle.c_grammar.specs.Reading.{Answer, heads, place_of, unary_by, unary_of, bin_of, choice_of, expr_at}
+use Rattle.c_grammar.specs.Reading.{Answer, heads, read_place, unary_by, read_unary, read_binary, read_choice, expr_at}
 use Rattle.c_grammar.specs.StmtReading.{calls}
 use Rattle.c_grammar.proofs.Local.{IsLocal, Ends, Alike, rest_of, bind_ends, gone, test_cases}
 use Rattle.c_grammar.proofs.Laws.{Laws, Apart, within, outcome, is_symbol, expect-is}
@@ -27,28 +27,28 @@ pub part_takes : {T A : Type 0} {reader : List Terminal → Answer A} {spelled :
     (l : Laws reader spelled Good deeps Over) (k : A → Seq T) → Takes reader → Takes (run (part l k))
 part_takes {reader = reader} l k h t ts e = bind_ends ts (reader (t ∷ ts)) _ (h t ts e) (λ y us. (seq_local (k y)).ends us)
 
-pub place_takes : (n : ℕ) (index : List Terminal → Answer Expr) (li : ExprLaws n index) → Takes (place_of index)
-unfolding place_of
+pub place_takes : (n : ℕ) (index : List Terminal → Answer Expr) (li : ExprLaws n index) → Takes (read_place index)
+unfolding read_place
 place_takes n index li = token_takes (place_behind n index li)
 
-unary_takes : (n : ℕ) (under : Bool → List Terminal → Answer Expr) (lt : ExprLaws n (under true)) (lf : RankLaws n 0 (under false)) → Takes (unary_of under)
-unfolding unary_of
+unary_takes : (n : ℕ) (under : Bool → List Terminal → Answer Expr) (lt : ExprLaws n (under true)) (lf : RankLaws n 0 (under false)) → Takes (read_unary under)
+unfolding read_unary
 unary_takes n under lt lf t ts e =
     let h : Ends ts (rest_of (unary_by under (t ∷ ts) (Some w.Name))) = part_takes (place_laws n (under true) lt) (named_behind n under lt lf) (place_takes n (under true) lt) t ts e in
     subst (λ z. Ends ts (rest_of (unary_by under (t ∷ ts) (Some z)))) (sym e) h
 
-bin_takes : (n : ℕ) (operand : List Terminal → Answer Expr) → RankLaws (suc n) 0 operand → Takes operand → (k : ℕ) → k < 11 → Takes (bin_of operand k)
-unfolding bin_of
+bin_takes : (n : ℕ) (operand : List Terminal → Answer Expr) → RankLaws (suc n) 0 operand → Takes operand → (k : ℕ) → k < 11 → Takes (read_binary operand k)
+unfolding read_binary
 bin_takes n operand l h zero m = h
-bin_takes n operand l h (suc k) m = part_takes (bin_laws n operand l k (omega arith)) (bin_behind n k (omega arith) (bin_of operand k) (bin_laws n operand l k (omega arith))) (bin_takes n operand l h k (omega arith))
+bin_takes n operand l h (suc k) m = part_takes (bin_laws n operand l k (omega arith)) (bin_behind n k (omega arith) (read_binary operand k) (bin_laws n operand l k (omega arith))) (bin_takes n operand l h k (omega arith))
 
 pub expr_takes : (n : ℕ) → Takes (expr_at (suc n) true)
-unfolding expr_at choice_of
+unfolding expr_at read_choice
 expr_takes n =
     let l = expr_laws n in
     let u = unary_laws n (expr_at n) l.full l.operand in
-    let b = bin_laws n (unary_of (expr_at n)) u 10 (omega arith) in
-    part_takes b (choice_behind n (expr_at n) l.full b) (bin_takes n (unary_of (expr_at n)) u (unary_takes n (expr_at n) l.full l.operand) 10 (omega arith))
+    let b = bin_laws n (read_unary (expr_at n)) u 10 (omega arith) in
+    part_takes b (choice_behind n (expr_at n) l.full b) (bin_takes n (read_unary (expr_at n)) u (unary_takes n (expr_at n) l.full l.operand) 10 (omega arith))
 
 abbrev pub fork : {A : Type 0} → (List Terminal → Answer A) → (List Terminal → Answer A) → List Terminal → Answer A
 fork a b ts = if calls ts then a ts else b ts

@@ -6,7 +6,7 @@ use Rattle.c_grammar.specs.declared.terminal.Symbol.{Symbol}
 use Rattle.c_grammar.specs.declared.terminal.Symbol.TheVariants as w
 use Rattle.c_grammar.specs.declared.terminal.Span.{Span}
 use Rattle.c_grammar.specs.declared.terminal.Terminal.{Terminal}
-use Rattle.c_grammar.specs.Symbols.{is, code_of}
+use Rattle.c_grammar.specs.Symbols.{is, symbol_code}
 use Rattle.c_grammar.specs.Grammar.{at, earlier}
 use Rattle.c_grammar.specs.Reading.{Fault, Answer, refuse, ◌>>=◌, expect, one_of}
 use Rattle.c_grammar.proofs.Local.{IsLocal, test_cases}
@@ -57,7 +57,7 @@ symbol_of n =
     else if n == 54 then w.ShiftLeft else if n == 55 then w.ShiftRight else if n == 56 then w.Plus else if n == 57 then w.Minus else if n == 58 then w.Times else if n == 59 then w.Divide
     else if n == 60 then w.Remainder else if n == 61 then w.Not else w.Complement
 
-symbol_of-code : (x : Symbol) → symbol_of (code_of x) ≡ x
+symbol_of-code : (x : Symbol) → symbol_of (symbol_code x) ≡ x
 unfolding symbol_of
 symbol_of-code w.Name = refl
 symbol_of-code w.Number = refl
@@ -123,7 +123,7 @@ symbol_of-code w.Remainder = refl
 symbol_of-code w.Not = refl
 symbol_of-code w.Complement = refl
 
-pub same_symbol : (x y : Symbol) → code_of x ≡ code_of y → x ≡ y
+pub same_symbol : (x y : Symbol) → symbol_code x ≡ symbol_code y → x ≡ y
 same_symbol x y h = sym (symbol_of-code x) ∙ ap symbol_of h ∙ symbol_of-code y
 
 pub is_symbol : (x y : Symbol) → is x y ≡ true → y ≡ x
@@ -131,7 +131,7 @@ is_symbol x y h = same_symbol y x (eqb-true _ _ h)
 
 pub expect-is : (x : Symbol) (p : Span) (ts : List Terminal) → expect x (at x p ∷ ts) ≡ Ok (p, ts)
 unfolding expect
-expect-is x p ts = rw (eq-eqb (code_of x) (code_of x) refl) refl
+expect-is x p ts = rw (eq-eqb (symbol_code x) (symbol_code x) refl) refl
 
 pub expect-ok : (x : Symbol) (ts : List Terminal) (y : Span × List Terminal) → expect x ts ≡ Ok y → ts ≡ at x y.0 ∷ y.1
 unfolding expect

@@ -9,8 +9,8 @@ use Rattle.c_grammar.specs.Symbols.{is}
 use Rattle.c_grammar.specs.Grammar.{at, earlier}
 use Rattle.c_grammar.specs.StmtGrammar.{spell_maybe, IsMaybe, spell_list, AreAll, spell_symbol, spell_after_comma, spell_comma_list, IsCommaList}
 use Rattle.c_grammar.specs.Depth.{deep_maybe, deep_list, deep_comma_list}
-use Rattle.c_grammar.specs.Reading.{Fault, Answer, ◌>>=◌, expect, heads, maybe, turns, many, times}
-use Rattle.c_grammar.specs.StmtReading.{after_comma_of, comma_list_of}
+use Rattle.c_grammar.specs.Reading.{Fault, Answer, ◌>>=◌, expect, heads, maybe, read_while, many, read_times}
+use Rattle.c_grammar.specs.StmtReading.{read_after_comma, read_comma_list}
 use Rattle.c_grammar.proofs.Local.{Ends, Alike, here, bind_ends, bind_alike, stays, rest_of, test_cases}
 use Rattle.c_grammar.proofs.Laws.{Laws, Apart, GoesOn, within, outcome, last, bind_ok, bind_err}
 use Rattle.c_grammar.proofs.Sequence.{Seq, done, token, part, peek, Choice, tree, spells, Fits, laws_of, Chosen}
@@ -59,7 +59,7 @@ module _ {A : Type 0} {one : List Terminal → Answer A} {spelled : A → List T
       chosen None g = record { choice = inr tt; of = refl; fits = tt; depth = λ rest. refl; follows = λ rest o. (o, tt) }
       chosen (Some a) g = record { choice = inl (a, tt); of = refl; fits = (g, tt); depth = λ rest. last (deeps a rest); follows = λ rest o. (starts a g rest, (o, tt)) }
 
-  pub after_comma_laws : Laws (after_comma_of one) (spell_after_comma spelled) (λ b. Good b.1) (λ b rest. deeps b.1 rest) (λ b rest. Over b.1 rest)
+  pub after_comma_laws : Laws (read_after_comma one) (spell_after_comma spelled) (λ b. Good b.1) (λ b rest. deeps b.1 rest) (λ b rest. Over b.1 rest)
   after_comma_laws = laws_of (token w.Comma (λ p. part l (λ a. done (p, a)))) (λ ts. refl) (λ c rest. refl) (λ c g. g.0)
       (λ b g. record { choice = (b.0, (b.1, tt)); of = refl; fits = (g, tt); depth = λ rest. last (deeps b.1 rest); follows = λ rest o. (o, tt) })
 
@@ -80,11 +80,11 @@ module _ {A : Type 0} {one : List Terminal → Answer A} {spelled : A → List T
     (l : Laws one spelled Good deeps Over) (goes : Symbol → Bool)
     (starts : (a : A) → Good a → (rest : List Terminal) → heads goes (spelled a rest) ≡ true)
     (next : (a b : A) → Good a → Good b → (rest : List Terminal) → Over a (spelled b rest)) where
-  turns_ends : (n : ℕ) (ts : List Terminal) → Ends ts (rest_of (turns goes one n ts))
+  turns_ends : (n : ℕ) (ts : List Terminal) → Ends ts (rest_of (read_while goes one n ts))
   turns_ends zero ts = here ts
   turns_ends (suc n) ts =
       elim (test_cases (heads goes ts)) [
-        | inl e ↦ rw e (bind_ends ts (one ts) _ (l.local.ends ts) (λ y us. bind_ends us (turns goes one n us) _ (turns_ends n us) (λ z vs. here vs)))
+        | inl e ↦ rw e (bind_ends ts (one ts) _ (l.local.ends ts) (λ y us. bind_ends us (read_while goes one n us) _ (turns_ends n us) (λ z vs. here vs)))
         | inr e ↦ rw e (here ts)
       ]
 
@@ -93,24 +93,24 @@ module _ {A : Type 0} {one : List Terminal → Answer A} {spelled : A → List T
   same_head (y ∷ v) x r r' = refl
 
   turns_alike : (n m : ℕ) (v : List Terminal) (x : Terminal) (r r' : List Terminal) → length (v ++ x ∷ r) ≤ n → length (v ++ x ∷ r') ≤ m
-      → Alike x r r' (turns goes one n (v ++ x ∷ r)) (turns goes one m (v ++ x ∷ r'))
+      → Alike x r r' (read_while goes one n (v ++ x ∷ r)) (read_while goes one m (v ++ x ∷ r'))
   turns_alike zero m v x r r' p q = absurd (omega (arith, p, length-append v (x ∷ r)))
   turns_alike (suc n) zero v x r r' p q = absurd (omega (arith, q, length-append v (x ∷ r')))
   turns_alike (suc n) (suc m) v x r r' p q =
       elim (test_cases (heads goes (v ++ x ∷ r))) [
         | inl e ↦ rw (e, sym (same_head v x r r') ∙ e) (bind_alike (one (v ++ x ∷ r)) (one (v ++ x ∷ r')) _ _ x r r' (l.local.alike v x r r')
-            (λ a us. bind_ends us (turns goes one n us) _ (turns_ends n us) (λ z vs. here vs))
+            (λ a us. bind_ends us (read_while goes one n us) _ (turns_ends n us) (λ z vs. here vs))
             (λ a v' ea eb.
             let qa : length (v' ++ x ∷ r) ≤ n = omega (arith, shortens l goes starts (v ++ x ∷ r) _ ea) in
             let qb : length (v' ++ x ∷ r') ≤ m = omega (arith, shortens l goes starts (v ++ x ∷ r') _ eb) in
-            bind_alike (turns goes one n (v' ++ x ∷ r)) (turns goes one m (v' ++ x ∷ r')) _ _ x r r'
+            bind_alike (read_while goes one n (v' ++ x ∷ r)) (read_while goes one m (v' ++ x ∷ r')) _ _ x r r'
             (turns_alike n m v' x r r' qa qb)
             (λ z vs. here vs) (λ z v2 _ _. stays (Ok (a ∷ z, [])) v2 x r r')))
         | inr e ↦ rw (e, sym (same_head v x r r') ∙ e) (stays (Ok ([], [])) v x r r')
       ]
 
   turns_complete : (m : ℕ) (list : List A) (rest : List Terminal) → AreAll Good list → OverMany goes Good Over rest → length (spell_list spelled list rest) ≤ m
-      → turns goes one m (spell_list spelled list rest) ≡ outcome (deep_list spelled deeps list rest) list rest
+      → read_while goes one m (spell_list spelled list rest) ≡ outcome (deep_list spelled deeps list rest) list rest
   turns_complete zero [] rest g o s = refl
   turns_complete (suc m) [] rest g o s = rw o.0 refl
   turns_complete zero (a ∷ more) rest g o s = absurd (omega (arith, s, some_length goes (spelled a (spell_list spelled more rest)) (starts a g.0 (spell_list spelled more rest))))
@@ -124,8 +124,8 @@ module _ {A : Type 0} {one : List Terminal → Answer A} {spelled : A → List T
       over [] h = o.1 a g.0
       over (b ∷ more) h = next a b g.0 h.0 (spell_list spelled more rest)
 
-      go : (d : Option (List Terminal)) → one (spelled a us) ≡ outcome d a us → (length us ≤ m → turns goes one m us ≡ outcome (deep_list spelled deeps more rest) more rest)
-          → (one (spelled a us) >>= λ a. turns goes one m a.1 >>= λ more. Ok (a.0 ∷ more.0, more.1)) ≡ outcome (earlier d (deep_list spelled deeps more rest)) (a ∷ more) rest
+      go : (d : Option (List Terminal)) → one (spelled a us) ≡ outcome d a us → (length us ≤ m → read_while goes one m us ≡ outcome (deep_list spelled deeps more rest) more rest)
+          → (one (spelled a us) >>= λ a. read_while goes one m a.1 >>= λ more. Ok (a.0 ∷ more.0, more.1)) ≡ outcome (earlier d (deep_list spelled deeps more rest)) (a ∷ more) rest
       go (Some d) k ih = rw k refl
       go None k ih =
           rw (k, ih (omega (arith, shortens l goes starts (spelled a us) (a, us) k, s)))
@@ -142,23 +142,23 @@ module _ {A : Type 0} {one : List Terminal → Answer A} {spelled : A → List T
       let s = l.sound ts a h in
       (s.0 ∙ ap (λ z. spelled a.0 z) r.0, (s.1, r.1), λ xs ys. ap (λ z. spelled a.0 z) (r.2 xs ys) ∙ s.2 (spell_list spelled b.0 xs) ys)
 
-  turns_sound : (n : ℕ) (ts : List Terminal) (y : List A × List Terminal) → turns goes one n ts ≡ Ok y → ReadList ts y
+  turns_sound : (n : ℕ) (ts : List Terminal) (y : List A × List Terminal) → read_while goes one n ts ≡ Ok y → ReadList ts y
   turns_sound zero ts y h = same_list ts ([], ts) y h (refl, tt, λ xs ys. refl)
   turns_sound (suc n) ts y h =
       elim (test_cases (heads goes ts)) [
         | inl e ↦
-            let g : (one ts >>= λ a. turns goes one n a.1 >>= λ more. Ok (a.0 ∷ more.0, more.1)) ≡ Ok y = rw e at h in
+            let g : (one ts >>= λ a. read_while goes one n a.1 >>= λ more. Ok (a.0 ∷ more.0, more.1)) ≡ Ok y = rw e at h in
             let a = bind_ok _ _ y g in let b = bind_ok _ _ y a.2 in
             same_list ts (a.0.0 ∷ b.0.0, b.0.1) y b.2 (one_more ts a.0 b.0 a.1 (turns_sound n a.0.1 b.0 b.1))
         | inr e ↦ let k : ◌≡◌ {A = Answer (List A)} (Ok ([], ts)) (Ok y) = rw e at h in same_list ts ([], ts) y k (refl, tt, λ xs ys. refl)
       ]
 
-  turns_goes : (n : ℕ) (ts : List Terminal) (f : Fault) → turns goes one n ts ≡ Err f → GoesOn (spell_list spelled) (AreAll Good) ts f
+  turns_goes : (n : ℕ) (ts : List Terminal) (f : Fault) → read_while goes one n ts ≡ Err f → GoesOn (spell_list spelled) (AreAll Good) ts f
   turns_goes zero ts f h = absurd (cc)
   turns_goes (suc n) ts f h =
       elim (test_cases (heads goes ts)) [
         | inl e ↦
-            let g : (one ts >>= λ a. turns goes one n a.1 >>= λ more. Ok (a.0 ∷ more.0, more.1)) ≡ Err f = rw e at h in
+            let g : (one ts >>= λ a. read_while goes one n a.1 >>= λ more. Ok (a.0 ∷ more.0, more.1)) ≡ Err f = rw e at h in
             elim (bind_err _ _ f g) [
               | inl q ↦ within spelled Good (spell_list spelled) (AreAll Good) [] (λ a. a ∷ []) (λ a g. (g, tt)) (λ a rest g. (rest, refl)) ts ts f refl (l.goes ts f q)
               | inr a ↦
@@ -202,14 +202,14 @@ module _ {A : Type 0} {one : List Terminal → Answer A} {spelled : A → List T
   same_end : (x y : List A × List Terminal) → ◌≡◌ {A = Answer (List A)} (Ok x) (Ok y) → x.1 ≡ [] → y.1 ≡ []
   same_end x y h e = let q : x ≡ y = cc in subst (λ (y : List A × List Terminal). y.1 ≡ []) q e
 
-  pub turns_end : (n : ℕ) (ts : List Terminal) (y : List A × List Terminal) → length ts ≤ n → turns (λ x. true) one n ts ≡ Ok y → y.1 ≡ []
+  pub turns_end : (n : ℕ) (ts : List Terminal) (y : List A × List Terminal) → length ts ≤ n → read_while (λ x. true) one n ts ≡ Ok y → y.1 ≡ []
   turns_end zero ts y s h = same_end ([], ts) y h (no_length ts s)
   turns_end (suc n) ts y s h =
       elim (test_cases (heads (λ x. true) ts)) [
         | inl e ↦
-            let g : (one ts >>= λ a. turns (λ x. true) one n a.1 >>= λ more. Ok (a.0 ∷ more.0, more.1)) ≡ Ok y = rw e at h in
-            let a = bind_ok (one ts) (λ a. turns (λ x. true) one n a.1 >>= λ more. Ok (a.0 ∷ more.0, more.1)) y g in
-            let b = bind_ok (turns (λ x. true) one n a.0.1) (λ more. Ok (a.0.0 ∷ more.0, more.1)) y a.2 in
+            let g : (one ts >>= λ a. read_while (λ x. true) one n a.1 >>= λ more. Ok (a.0 ∷ more.0, more.1)) ≡ Ok y = rw e at h in
+            let a = bind_ok (one ts) (λ a. read_while (λ x. true) one n a.1 >>= λ more. Ok (a.0 ∷ more.0, more.1)) y g in
+            let b = bind_ok (read_while (λ x. true) one n a.0.1) (λ more. Ok (a.0.0 ∷ more.0, more.1)) y a.2 in
             same_end (a.0.0 ∷ b.0.0, b.0.1) y b.2 (turns_end n a.0.1 b.0 (omega (arith, s, shortens l (λ x. true) starts ts a.0 a.1)) b.1)
         | inr e ↦ let k : ◌≡◌ {A = Answer (List A)} (Ok ([], ts)) (Ok y) = rw e at h in same_end ([], ts) y k (gone_out ts e)
       ]
@@ -222,11 +222,11 @@ module _ {A : Type 0} {one : List Terminal → Answer A} {spelled : A → List T
     {Over : A → List Terminal → Type 0}
     (l : Laws one spelled Good deeps Over)
     (next : (a : A) (p : Span) (rest : List Terminal) → Good a → Over a (at w.Comma p ∷ rest)) where
-  more_laws : Laws (many (is w.Comma) (after_comma_of one)) (spell_list (spell_after_comma spelled)) (AreAll (λ b. Good b.1))
+  more_laws : Laws (many (is w.Comma) (read_after_comma one)) (spell_list (spell_after_comma spelled)) (AreAll (λ b. Good b.1))
       (deep_list (spell_after_comma spelled) (λ b rest. deeps b.1 rest)) (λ list rest. OverMany {A = Span × A} (is w.Comma) (λ b. Good b.1) (λ b rest. Over b.1 rest) rest)
   more_laws = many_laws (after_comma_laws l) (is w.Comma) (λ b g rest. refl) (λ a b g h rest. next a.1 b.0 (spelled b.1 rest) g)
 
-  pub comma_list_laws : Laws (comma_list_of one) (spell_comma_list spelled) (IsCommaList Good) (deep_comma_list spelled deeps) (OverCommaList Good Over)
+  pub comma_list_laws : Laws (read_comma_list one) (spell_comma_list spelled) (IsCommaList Good) (deep_comma_list spelled deeps) (OverCommaList Good Over)
   comma_list_laws = laws_of (part l (λ a. part more_laws (λ more. done (comma_list a more)))) (λ ts. refl) (λ c rest. refl) (λ c g. (g.0, g.1.0)) chosen
     where
       over : (a : A) (more : List (Span × A)) (rest : List Terminal) → Good a → OverMany (is w.Comma) Good Over rest → Over a (spell_list (spell_after_comma spelled) more rest)
@@ -246,7 +246,7 @@ module _ {A : Type 0} {one : List Terminal → Answer A} {spelled : A → List T
     (l : Laws one spelled Good deeps (λ a rest. Unit {0})) where
   -- this many things
   abbrev TimesLaws : ℕ → Type 0
-  TimesLaws m = Laws (times one m) (spell_list spelled) (λ list. (length list ≡ m) × AreAll Good list) (deep_list spelled deeps) (λ list rest. Unit {0})
+  TimesLaws m = Laws (read_times one m) (spell_list spelled) (λ list. (length list ≡ m) × AreAll Good list) (deep_list spelled deeps) (λ list rest. Unit {0})
 
   times_none : TimesLaws 0
   times_none = laws_of (done []) (λ ts. refl) (λ c rest. refl) (λ c g. (refl, tt)) chosen

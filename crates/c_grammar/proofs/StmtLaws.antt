@@ -6,12 +6,12 @@ use Rattle.c_grammar.specs.declared.terminal.Span.{Span}
 use Rattle.c_grammar.specs.declared.terminal.Terminal.{Terminal}
 use Rattle.c_grammar.specs.Tree as t
 use Rattle.c_grammar.specs.Symbols.{is, isnt, is_kind, starts_expr, starts_stmt, starts_part}
-use Rattle.c_grammar.specs.Grammar.{at, spell, Is, earlier, deep}
+use Rattle.c_grammar.specs.Grammar.{at, spell, IsExpr, earlier, deep}
 use Rattle.c_grammar.specs.StmtGrammar.{spell_maybe, IsMaybe, spell_list, AreAll, spell_right, IsRight, spell_simple, IsSimple, spell_stmt, spell_part, spell_parts, ends_open, IsStmt, IsPart, AreParts}
 use Rattle.c_grammar.specs.Depth.{deep_maybe, deep_list, deep_right, deep_simple, deep_declaration, deep_start, deep_stmt, deep_part, deep_parts}
 use Rattle.c_grammar.specs.StmtView.{parts_from}
 use Rattle.c_grammar.specs.Reading.{Answer, first_of, heads, maybe, many, expr_at}
-use Rattle.c_grammar.specs.StmtReading.{right_of, simple_of, stmt_by, stmt_of, part_of, part_with, stmt_at, part_at}
+use Rattle.c_grammar.specs.StmtReading.{read_right, read_simple, stmt_by, read_stmt, read_part, part_with, stmt_at, part_at}
 use Rattle.c_grammar.proofs.Laws.{Laws, last, not_both, zero_span}
 use Rattle.c_grammar.proofs.Sequence.{Seq, done, token, part, split, peek, switch, run, Choice, tree, spells, Fits, Reads, Chosen, laws_of, seq_sound}
 use Rattle.c_grammar.proofs.Lists.{maybe_laws, many_laws, OverMaybe, OverMany}
@@ -71,13 +71,13 @@ parts_laws n reader l = many_laws l (isnt w.CloseBrace) (λ p g rest. heads_othe
 
 module _ (n : ℕ) (expr index : List Terminal → Answer t.Expr) (le : ExprLaws (suc n) expr) (li : ExprLaws n index) (te : Takes expr)
     (one : List Terminal → Answer t.Stmt) (lo : StmtLaws n one) (opens : Opens one) (parts : List Terminal → Answer t.Part) (lp : PartLaws n parts) where
-  value_laws : Laws (maybe (isnt w.Semicolon) (right_of expr index)) (spell_maybe spell_right) (IsMaybe IsRight) (deep_maybe (deep_right n)) (OverMaybe (isnt w.Semicolon) (λ r rest. Over 11 rest))
+  value_laws : Laws (maybe (isnt w.Semicolon) (read_right expr index)) (spell_maybe spell_right) (IsMaybe IsRight) (deep_maybe (deep_right n)) (OverMaybe (isnt w.Semicolon) (λ r rest. Over 11 rest))
   value_laws = maybe_laws (right_laws n expr index le li te) (isnt w.Semicolon) (λ r g rest. heads_other starts_expr w.Semicolon (spell_right r rest) (right_starts r g rest) refl)
 
-  test_laws : Laws (maybe (isnt w.Semicolon) expr) (spell_maybe spell) (IsMaybe Is) (deep_maybe (deep (suc n))) (OverMaybe (isnt w.Semicolon) (λ e rest. Over 11 rest))
+  test_laws : Laws (maybe (isnt w.Semicolon) expr) (spell_maybe spell) (IsMaybe IsExpr) (deep_maybe (deep (suc n))) (OverMaybe (isnt w.Semicolon) (λ e rest. Over 11 rest))
   test_laws = maybe_laws le (isnt w.Semicolon) (λ e g rest. heads_other starts_expr w.Semicolon (spell e rest) (expr_starts e g rest) refl)
 
-  step_laws : Laws (maybe (isnt w.CloseParen) (simple_of expr index)) (spell_maybe spell_simple) (IsMaybe IsSimple) (deep_maybe (deep_simple n))
+  step_laws : Laws (maybe (isnt w.CloseParen) (read_simple expr index)) (spell_maybe spell_simple) (IsMaybe IsSimple) (deep_maybe (deep_simple n))
       (OverMaybe (isnt w.CloseParen) (λ s rest. Over 11 rest))
   step_laws = maybe_laws (simple_laws n expr index le li te) (isnt w.CloseParen) (λ s g rest. heads_other starts_simple w.CloseParen (spell_simple s rest) (simple_starts s g rest) refl)
 
@@ -285,12 +285,12 @@ module _ (n : ℕ) (expr index : List Terminal → Answer t.Expr) (le : ExprLaws
   stmt_open (Some w.For) ts y k = let c = seq_sound for_seq ts y k in kept (tree for_seq c.choice) y c.of (opens _ _ c.reads.1.1.1.0)
   stmt_open _ ts y k = let c = seq_sound plain_seq ts y k in λ q. not_both (ends_open y.0) q (sym (ap ends_open c.of))
 
-  pub stmt_of-open : Opens (stmt_of expr index one parts)
-  unfolding stmt_of
+  pub stmt_of-open : Opens (read_stmt expr index one parts)
+  unfolding read_stmt
   stmt_of-open ts y k = stmt_open (first_of ts) ts y (sym (stmt_runs (first_of ts) ts) ∙ k)
 
-  pub stmt_laws : StmtLaws (suc n) (stmt_of expr index one parts)
-  unfolding stmt_of
+  pub stmt_laws : StmtLaws (suc n) (read_stmt expr index one parts)
+  unfolding read_stmt
   stmt_laws = laws_of (switch stmt_seq) (λ ts. stmt_runs (first_of ts) ts) (λ c rest. stmt_spelling c.0 c.1 rest) (λ c g. stmt_good c.0 c.1 g) stmt_chosen
 
 module _ (n : ℕ) (expr index : List Terminal → Answer t.Expr) (le : ExprLaws (suc n) expr) (li : ExprLaws n index) (te : Takes expr)
@@ -322,8 +322,8 @@ module _ (n : ℕ) (expr index : List Terminal → Answer t.Expr) (le : ExprLaws
     follows = λ rest o. (heads_implies starts_stmt is_kind false stmt_kind (spell_stmt s rest) (stmt_starts s g rest), (λ k. o, tt));
   }
 
-  pub part_laws : PartLaws (suc n) (part_of expr index stmt)
-  unfolding part_of
+  pub part_laws : PartLaws (suc n) (read_part expr index stmt)
+  unfolding read_part
   part_laws = laws_of part_seq (λ ts. refl) part_spelling part_good part_chosen
 
 pub record StmtsAt (n : ℕ) : Type 0 where

@@ -8,8 +8,8 @@ use Rattle.c_grammar.specs.Tree as t
 use Rattle.c_grammar.specs.Grammar.{at}
 use Rattle.c_grammar.specs.Programs.{IsTree, IsUnexpected}
 use Rattle.c_grammar.proofs.Programs.{read_fault}
-use Rattle.c_grammar.specs.Reading.{expect, one_of, too_deep, refuse, place_of, unary_of, bin_of, choice_of, expr_at}
-use Rattle.c_grammar.specs.StmtReading.{argument_of, call_of, right_of, change_of, simple_of, stmt_of, part_of, part_with, stmt_at, parameter_of, head_of, value_of, external_with, program_of}
+use Rattle.c_grammar.specs.Reading.{expect, one_of, too_deep, refuse, read_place, read_unary, read_binary, read_choice, expr_at}
+use Rattle.c_grammar.specs.StmtReading.{read_argument, read_call, read_right, read_change, read_simple, read_stmt, read_part, part_with, stmt_at, read_parameter, read_head, read_value, external_with, read_whole_text}
 
 span : ℕ → Span
 span n = record { start = n; len = 1 }
@@ -23,7 +23,7 @@ sums : expr_at 64 true (at w.Number (span 0) ∷ at w.Plus (span 1) ∷ at w.Num
           (t.link w.Minus (span 8) (t.number (span 9)) t.no_link)),
       at w.Semicolon (span 10) ∷ [],
     )
-unfolding expect one_of too_deep place_of unary_of bin_of choice_of expr_at
+unfolding expect one_of too_deep read_place read_unary read_binary read_choice expr_at
 sums = refl
 
 -- `if (x) if (y) ; else ;`: an else belongs to the nearest if
@@ -34,7 +34,7 @@ nearest : stmt_at 64 (at w.If (span 0) ∷ at w.OpenParen (span 1) ∷ at w.Name
           (t.if_else (span 4) (span 5) (t.read (t.whole (span 6))) (span 7) (t.empty (span 8)) (span 9) (t.empty (span 10))),
       [],
     )
-unfolding expect one_of too_deep place_of unary_of bin_of choice_of expr_at stmt_of stmt_at
+unfolding expect one_of too_deep read_place read_unary read_binary read_choice expr_at read_stmt stmt_at
 nearest = refl
 
 -- `void f(int a) { f(a); }`
@@ -71,9 +71,9 @@ function_tree =
     ∷ []
 
 -- it is read so,
-function_read : program_of function_signs ≡ Ok (function_tree, [])
-unfolding function_signs function_tree expect one_of too_deep place_of unary_of bin_of choice_of expr_at argument_of call_of right_of
-    change_of simple_of stmt_of part_of part_with stmt_at parameter_of head_of value_of external_with program_of
+function_read : read_whole_text function_signs ≡ Ok (function_tree, [])
+unfolding function_signs function_tree expect one_of too_deep read_place read_unary read_binary read_choice expr_at read_argument read_call read_right
+    read_change read_simple read_stmt read_part part_with stmt_at read_parameter read_head read_value external_with read_whole_text
 function_read = refl
 
 -- and this is its tree by the grammar alone
@@ -82,38 +82,38 @@ unfolding function_signs function_tree
 function_is = ((((refl, (tt, tt)), refl, ((tt, tt), tt)), tt), refl, refl)
 
 -- `int x;` at the outermost place: the `;` is unexpected
-variable : program_of (at w.Int (span 0) ∷ at w.Name (span 1) ∷ at w.Semicolon (span 2) ∷ []) ≡ refuse Unexpected (at w.Semicolon (span 2) ∷ [])
-unfolding expect one_of head_of external_with program_of
+variable : read_whole_text (at w.Int (span 0) ∷ at w.Name (span 1) ∷ at w.Semicolon (span 2) ∷ []) ≡ refuse Unexpected (at w.Semicolon (span 2) ∷ [])
+unfolding expect one_of read_head external_with read_whole_text
 variable = refl
 
 variable_fault : IsUnexpected (at w.Int (span 0) ∷ at w.Name (span 1) ∷ at w.Semicolon (span 2) ∷ []) (at w.Semicolon (span 2) ∷ [])
 variable_fault = read_fault _ Unexpected _ variable
 
 -- `int f(int) { }`: a parameter without a name, so the `{` is unexpected
-nameless : program_of (at w.Int (span 0) ∷ at w.Name (span 1) ∷ at w.OpenParen (span 2) ∷ at w.Int (span 3) ∷ at w.CloseParen (span 4) ∷ at w.OpenBrace (span 5) ∷ at w.CloseBrace (span 6) ∷ [])
+nameless : read_whole_text (at w.Int (span 0) ∷ at w.Name (span 1) ∷ at w.OpenParen (span 2) ∷ at w.Int (span 3) ∷ at w.CloseParen (span 4) ∷ at w.OpenBrace (span 5) ∷ at w.CloseBrace (span 6) ∷ [])
     ≡ refuse Unexpected (at w.OpenBrace (span 5) ∷ at w.CloseBrace (span 6) ∷ [])
-unfolding expect one_of parameter_of head_of external_with program_of
+unfolding expect one_of read_parameter read_head external_with read_whole_text
 nameless = refl
 
 -- `#define N ((-1))` and the line's end
-defined : program_of (at w.Define (span 0) ∷ at w.Name (span 1) ∷ at w.OpenParen (span 2) ∷ at w.OpenParen (span 3) ∷ at w.Minus (span 4) ∷ at w.Number (span 5)
+defined : read_whole_text (at w.Define (span 0) ∷ at w.Name (span 1) ∷ at w.OpenParen (span 2) ∷ at w.OpenParen (span 3) ∷ at w.Minus (span 4) ∷ at w.Number (span 5)
     ∷ at w.CloseParen (span 6) ∷ at w.CloseParen (span 7) ∷ at w.EndLine (span 8) ∷ [])
     ≡ Ok (
       t.define (span 0) (span 1) (record { opens = span 2 ∷ span 3 ∷ []; minus = Some (span 4); number = span 5; closes = span 6 ∷ span 7 ∷ [] }) (span 8) ∷ [],
       [],
     )
-unfolding expect one_of value_of external_with program_of
+unfolding expect one_of read_value external_with read_whole_text
 defined = refl
 
 -- `((1))` where two depths are left: the number is too deep
 deep : expr_at 2 true (at w.OpenParen (span 0) ∷ at w.OpenParen (span 1) ∷ at w.Number (span 2) ∷ at w.CloseParen (span 3) ∷ at w.CloseParen (span 4) ∷ [])
     ≡ refuse TooDeep (at w.Number (span 2) ∷ at w.CloseParen (span 3) ∷ at w.CloseParen (span 4) ∷ [])
-unfolding expect one_of too_deep unary_of bin_of choice_of expr_at
+unfolding expect one_of too_deep read_unary read_binary read_choice expr_at
 deep = refl
 
 -- `x = f(1) + 2;`: a call is the whole right side, so the `+` is unexpected
 summed : stmt_at 64 (at w.Name (span 0) ∷ at w.Assign (span 1) ∷ at w.Name (span 2) ∷ at w.OpenParen (span 3) ∷ at w.Number (span 4) ∷ at w.CloseParen (span 5) ∷ at w.Plus (span 6)
     ∷ at w.Number (span 7) ∷ at w.Semicolon (span 8) ∷ [])
     ≡ refuse Unexpected (at w.Plus (span 6) ∷ at w.Number (span 7) ∷ at w.Semicolon (span 8) ∷ [])
-unfolding expect one_of too_deep place_of unary_of bin_of choice_of expr_at argument_of call_of right_of change_of simple_of stmt_of stmt_at
+unfolding expect one_of too_deep read_place read_unary read_binary read_choice expr_at read_argument read_call read_right read_change read_simple read_stmt stmt_at
 summed = refl

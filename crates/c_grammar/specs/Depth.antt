@@ -32,7 +32,7 @@ deep_argument n (t.address mark place) rest = deep_place n place rest
 deep_argument n (t.value expr) rest = deep (suc n) expr rest
 
 -- in a call
-abbrev pub deep_call : ℕ → t.Call → List Terminal → Option (List Terminal)
+abbrev pub deep_call : ℕ → t.WrittenCall → List Terminal → Option (List Terminal)
 deep_call n call rest = deep_maybe (deep_comma_list spell_argument (deep_argument n)) call.arguments (at w.CloseParen call.closing ∷ rest)
 
 -- in a right side

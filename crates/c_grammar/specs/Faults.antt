@@ -4,8 +4,8 @@ use Rattle.c_grammar.specs.declared.terminal.Terminal.{Terminal}
 
 module _ {A : Type 0} (spelled : A → List Terminal) (Good : A → Type 0) (deepest : A → Option (List Terminal)) where
   -- the text is this tree's, and nothing in it is too deep
-  abbrev pub IsText : List Terminal → A → Type 0
-  IsText ts a = Good a × (ts ≡ spelled a) × (deepest a ≡ None)
+  abbrev pub IsTextOf : List Terminal → A → Type 0
+  IsTextOf ts a = Good a × (ts ≡ spelled a) × (deepest a ≡ None)
 
   -- some text goes on so after these terminals, with nothing too deep in them
   abbrev pub MayBegin : List Terminal → Type 0

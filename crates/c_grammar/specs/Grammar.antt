@@ -47,24 +47,24 @@ IsSome (link operator span operand links) = Unit {0}
 
 abbrev mutual
   -- operators bind by level, all to the left
-  pub Is : Expr → Type 0
-  Is (number span) = Unit {0}
-  Is (read place) = IsPlace place
-  Is (field place dot name) = IsPlace place
-  Is (paren opening inner closing) = Is inner
-  Is (unary sign span operand) = (is_sign sign ≡ true) × (precedence operand ≡ 0) × Is operand
-  Is (chain level first links) = (0 < level) × (level < CONDITIONAL_LEVEL) × (precedence first < level) × Is first × IsSome links × AreLinks level links
-  Is (choice test question branch colon other) = (precedence test < CONDITIONAL_LEVEL) × Is test × Is branch × Is other
+  pub IsExpr : Expr → Type 0
+  IsExpr (number span) = Unit {0}
+  IsExpr (read place) = IsPlace place
+  IsExpr (field place dot name) = IsPlace place
+  IsExpr (paren opening inner closing) = IsExpr inner
+  IsExpr (unary sign span operand) = (is_sign sign ≡ true) × (precedence operand ≡ 0) × IsExpr operand
+  IsExpr (chain level first links) = (0 < level) × (level < CONDITIONAL_LEVEL) × (precedence first < level) × IsExpr first × IsSome links × AreLinks level links
+  IsExpr (choice test question branch colon other) = (precedence test < CONDITIONAL_LEVEL) × IsExpr test × IsExpr branch × IsExpr other
 
   -- an index is an expression of the grammar
   pub IsPlace : Place → Type 0
   IsPlace (whole name) = Unit {0}
-  IsPlace (cell name opening index closing) = Is index
+  IsPlace (cell name opening index closing) = IsExpr index
 
   -- each operator is of this level, and each operand binds more tightly
   pub AreLinks : ℕ → Links → Type 0
   AreLinks level no_link = Unit {0}
-  AreLinks level (link operator span operand links) = (level_of operator ≡ level) × (precedence operand < level) × Is operand × AreLinks level links
+  AreLinks level (link operator span operand links) = (level_of operator ≡ level) × (precedence operand < level) × IsExpr operand × AreLinks level links
 
 -- the first of two places, where there is one
 abbrev pub earlier : Option (List Terminal) → Option (List Terminal) → Option (List Terminal)

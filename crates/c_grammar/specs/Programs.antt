@@ -13,23 +13,23 @@ abbrev pub spelling : Tree → List Terminal
 spelling tree = spell_tree tree []
 
 -- the terminals from the first thing on that is too deep
-abbrev pub deepest : Tree → Option (List Terminal)
-deepest tree = deep_tree tree []
+abbrev pub first_too_deep : Tree → Option (List Terminal)
+first_too_deep tree = deep_tree tree []
 
 -- the terminals are this tree's, and nothing in it is too deep
 abbrev pub IsTree : List Terminal → Tree → Type 0
-IsTree terminals tree = texts.IsText spelling AreExternals deepest terminals tree
+IsTree terminals tree = texts.IsTextOf spelling AreExternals first_too_deep terminals tree
 
 -- the first terminal of rest is one that no program has after the terminals before it; the end of the text counts as a terminal
 abbrev pub IsUnexpected : List Terminal → List Terminal → Type 0
-IsUnexpected terminals rest = texts.IsUnexpected spelling AreExternals deepest terminals rest
+IsUnexpected terminals rest = texts.IsUnexpected spelling AreExternals first_too_deep terminals rest
 
 -- the first terminal of rest begins depth 65, and no terminal before it is unexpected
 abbrev pub IsTooDeep : List Terminal → List Terminal → Type 0
-IsTooDeep terminals rest = texts.IsTooDeep spelling AreExternals deepest terminals rest
+IsTooDeep terminals rest = texts.IsTooDeep spelling AreExternals first_too_deep terminals rest
 
 -- the first fault of a text, at the first terminal of rest
-abbrev pub IsFault : List Terminal → Why → List Terminal → Type 0
-IsFault terminals Unexpected rest = IsUnexpected terminals rest
-IsFault terminals TooDeep rest = IsTooDeep terminals rest
-IsFault terminals _ rest = ⊥
+abbrev pub IsSyntaxFault : List Terminal → Why → List Terminal → Type 0
+IsSyntaxFault terminals Unexpected rest = IsUnexpected terminals rest
+IsSyntaxFault terminals TooDeep rest = IsTooDeep terminals rest
+IsSyntaxFault terminals _ rest = ⊥

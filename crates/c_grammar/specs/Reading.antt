@@ -61,28 +61,28 @@ abbrev pub maybe : {A : Type 0} → (Symbol → Bool) → (List Terminal → Ans
 maybe goes one ts = if heads goes ts then (one ts >>= λ a. Ok (Some a.0, a.1)) else Ok (None, ts)
 
 -- things as long as the first symbol says that one more is there; n bounds them
-abbrev pub turns : {A : Type 0} → (Symbol → Bool) → (List Terminal → Answer A) → ℕ → List Terminal → Answer (List A)
-turns goes one zero ts = Ok ([], ts)
-turns goes one (suc n) ts =
+abbrev pub read_while : {A : Type 0} → (Symbol → Bool) → (List Terminal → Answer A) → ℕ → List Terminal → Answer (List A)
+read_while goes one zero ts = Ok ([], ts)
+read_while goes one (suc n) ts =
     if heads goes ts
-    then (one ts >>= λ a. turns goes one n a.1 >>= λ more. Ok (a.0 ∷ more.0, more.1))
+    then (one ts >>= λ a. read_while goes one n a.1 >>= λ more. Ok (a.0 ∷ more.0, more.1))
     else Ok ([], ts)
 
 -- all of them: each takes a terminal at least, so their bound is the number of terminals
 abbrev pub many : {A : Type 0} → (Symbol → Bool) → (List Terminal → Answer A) → List Terminal → Answer (List A)
-many goes one ts = turns goes one (length ts) ts
+many goes one ts = read_while goes one (length ts) ts
 
 -- this many things
-abbrev pub times : {A : Type 0} → (List Terminal → Answer A) → ℕ → List Terminal → Answer (List A)
-times one zero ts = Ok ([], ts)
-times one (suc n) ts = do
+abbrev pub read_times : {A : Type 0} → (List Terminal → Answer A) → ℕ → List Terminal → Answer (List A)
+read_times one zero ts = Ok ([], ts)
+read_times one (suc n) ts = do
   a ← one ts
-  more ← times one n a.1
+  more ← read_times one n a.1
   Ok (a.0 ∷ more.0, more.1)
 
 -- a name and an index in brackets, which `index` reads
-abbrev pub cell_of : (List Terminal → Answer Expr) → Span → List Terminal → Answer Place
-cell_of index name ts = do
+abbrev pub read_cell : (List Terminal → Answer Expr) → Span → List Terminal → Answer Place
+read_cell index name ts = do
   opening ← expect w.OpenBracket ts
   inner ← index opening.1
   closing ← expect w.CloseBracket inner.1
@@ -90,86 +90,86 @@ cell_of index name ts = do
 
 -- what follows the name of a place: an index or nothing
 abbrev pub place_tail : (List Terminal → Answer Expr) → Span → List Terminal → Answer Place
-place_tail index name ts = if heads (is w.OpenBracket) ts then cell_of index name ts else Ok (whole name, ts)
+place_tail index name ts = if heads (is w.OpenBracket) ts then read_cell index name ts else Ok (whole name, ts)
 
 -- a place
-unfoldable pub place_of : (List Terminal → Answer Expr) → List Terminal → Answer Place
-place_of index ts = do
+unfoldable pub read_place : (List Terminal → Answer Expr) → List Terminal → Answer Place
+read_place index ts = do
   name ← expect w.Name ts
   place_tail index name.0 name.1
 
 -- a dot and the name of a field after a place
-abbrev pub field_of : Place → List Terminal → Answer Expr
-field_of place ts = do
+abbrev pub read_field : Place → List Terminal → Answer Expr
+read_field place ts = do
   dot ← expect w.Dot ts
   name ← expect w.Name dot.1
   Ok (field place dot.0 name.0, name.1)
 
 -- what follows a place that is read: a field or nothing
 abbrev pub field_tail : Place → List Terminal → Answer Expr
-field_tail place ts = if heads (is w.Dot) ts then field_of place ts else Ok (read place, ts)
+field_tail place ts = if heads (is w.Dot) ts then read_field place ts else Ok (read place, ts)
 
 -- a place that is read, or a field of it
-abbrev pub named_of : (List Terminal → Answer Expr) → List Terminal → Answer Expr
-named_of index ts = do
-  place ← place_of index ts
+abbrev pub read_named : (List Terminal → Answer Expr) → List Terminal → Answer Expr
+read_named index ts = do
+  place ← read_place index ts
   field_tail place.0 place.1
 
 -- a number
-abbrev pub number_of : List Terminal → Answer Expr
-number_of ts = do
+abbrev pub read_number : List Terminal → Answer Expr
+read_number ts = do
   span ← expect w.Number ts
   Ok (number span.0, span.1)
 
 -- under true reads an expression one deeper, under false an operand with its signs
-abbrev pub paren_of : (Bool → List Terminal → Answer Expr) → List Terminal → Answer Expr
-paren_of under ts = do
+abbrev pub read_paren : (Bool → List Terminal → Answer Expr) → List Terminal → Answer Expr
+read_paren under ts = do
   opening ← expect w.OpenParen ts
   inner ← under true opening.1
   closing ← expect w.CloseParen inner.1
   Ok (paren opening.0 inner.0 closing.0, closing.1)
 
 -- a sign and its operand
-abbrev pub signed_of : (Bool → List Terminal → Answer Expr) → List Terminal → Answer Expr
-signed_of under ts = do
+abbrev pub read_signed : (Bool → List Terminal → Answer Expr) → List Terminal → Answer Expr
+read_signed under ts = do
   sign ← one_of is_sign ts
   operand ← under false sign.1
   Ok (unary sign.0.symbol sign.0.span operand.0, operand.1)
 
 -- an operand with its signs, by its first symbol
 abbrev pub unary_by : (Bool → List Terminal → Answer Expr) → List Terminal → Option Symbol → Answer Expr
-unary_by under ts (Some w.Number) = number_of ts
-unary_by under ts (Some w.Name) = named_of (under true) ts
-unary_by under ts (Some w.OpenParen) = paren_of under ts
-unary_by under ts _ = signed_of under ts
+unary_by under ts (Some w.Number) = read_number ts
+unary_by under ts (Some w.Name) = read_named (under true) ts
+unary_by under ts (Some w.OpenParen) = read_paren under ts
+unary_by under ts _ = read_signed under ts
 
 -- an operand with its signs
-unfoldable pub unary_of : (Bool → List Terminal → Answer Expr) → List Terminal → Answer Expr
-unary_of under ts = unary_by under ts (first_of ts)
+unfoldable pub read_unary : (Bool → List Terminal → Answer Expr) → List Terminal → Answer Expr
+read_unary under ts = unary_by under ts (first_of ts)
 
 -- an operator of level k and its operand
-abbrev pub link_of : (List Terminal → Answer Expr) → ℕ → List Terminal → Answer Piece
-link_of below k ts = do
+abbrev pub read_link : (List Terminal → Answer Expr) → ℕ → List Terminal → Answer Piece
+read_link below k ts = do
   operator ← one_of (λ x. level_of x == k) ts
   operand ← below operator.1
   Ok (record { operator = operator.0.symbol; at = operator.0.span; operand = operand.0 }, operand.1)
 
 -- the operands of one level: the first alone, or a chain
-abbrev pub chained : ℕ → Expr → List Piece → Expr
-chained k first [] = first
-chained k first (p ∷ ps) = chain k first (links_from (p ∷ ps))
+abbrev pub chain_or_operand : ℕ → Expr → List Piece → Expr
+chain_or_operand k first [] = first
+chain_or_operand k first (p ∷ ps) = chain k first (links_from (p ∷ ps))
 
 -- an expression of operators up to level k
-unfoldable pub bin_of : (List Terminal → Answer Expr) → ℕ → List Terminal → Answer Expr
-bin_of operand zero ts = operand ts
-bin_of operand (suc k) ts = do
-  first ← bin_of operand k ts
-  links ← many (λ x. level_of x == suc k) (link_of (bin_of operand k) (suc k)) first.1
-  Ok (chained (suc k) first.0 links.0, links.1)
+unfoldable pub read_binary : (List Terminal → Answer Expr) → ℕ → List Terminal → Answer Expr
+read_binary operand zero ts = operand ts
+read_binary operand (suc k) ts = do
+  first ← read_binary operand k ts
+  links ← many (λ x. level_of x == suc k) (read_link (read_binary operand k) (suc k)) first.1
+  Ok (chain_or_operand (suc k) first.0 links.0, links.1)
 
 -- the two branches after a test
-abbrev pub branches_of : (Bool → List Terminal → Answer Expr) → Expr → List Terminal → Answer Expr
-branches_of under test ts = do
+abbrev pub read_branches : (Bool → List Terminal → Answer Expr) → Expr → List Terminal → Answer Expr
+read_branches under test ts = do
   question ← expect w.Question ts
   branch ← under true question.1
   colon ← expect w.Colon branch.1
@@ -178,16 +178,16 @@ branches_of under test ts = do
 
 -- what follows a test: two branches or nothing
 abbrev pub choice_tail : (Bool → List Terminal → Answer Expr) → Expr → List Terminal → Answer Expr
-choice_tail under test ts = if heads (is w.Question) ts then branches_of under test ts else Ok (test, ts)
+choice_tail under test ts = if heads (is w.Question) ts then read_branches under test ts else Ok (test, ts)
 
 -- an expression: operators of all levels, then `?` and two branches or nothing
-unfoldable pub choice_of : (Bool → List Terminal → Answer Expr) → List Terminal → Answer Expr
-choice_of under ts = do
-  test ← bin_of (unary_of under) (CONDITIONAL_LEVEL - 1) ts
+unfoldable pub read_choice : (Bool → List Terminal → Answer Expr) → List Terminal → Answer Expr
+read_choice under ts = do
+  test ← read_binary (read_unary under) (CONDITIONAL_LEVEL - 1) ts
   choice_tail under test.0 test.1
 
 -- an expression (true) or an operand with its signs (false), with n depths left
 unfoldable pub expr_at : ℕ → Bool → List Terminal → Answer Expr
 expr_at zero full = too_deep starts_expr
-expr_at (suc n) false = unary_of (expr_at n)
-expr_at (suc n) true = choice_of (expr_at n)
+expr_at (suc n) false = read_unary (expr_at n)
+expr_at (suc n) true = read_choice (expr_at n)

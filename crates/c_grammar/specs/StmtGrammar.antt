@@ -5,7 +5,7 @@ use Rattle.c_grammar.specs.declared.terminal.Symbol.TheVariants as w
 use Rattle.c_grammar.specs.declared.terminal.Span.{Span}
 use Rattle.c_grammar.specs.declared.terminal.Terminal.{Terminal}
 use Rattle.c_grammar.specs.Tree as t
-use Rattle.c_grammar.specs.Grammar.{at, spell, spell_place, Is, IsPlace}
+use Rattle.c_grammar.specs.Grammar.{at, spell, spell_place, IsExpr, IsPlace}
 use Rattle.c_grammar.specs.Symbols.{is_assign, is_step, is_kind, is_result}
 
 -- something that may be missing
@@ -54,15 +54,15 @@ spell_argument (t.value expr) rest = spell expr rest
 abbrev pub IsArgument : t.Argument → Type 0
 IsArgument (t.text span) = Unit {0}
 IsArgument (t.address mark place) = IsPlace place
-IsArgument (t.value expr) = Is expr
+IsArgument (t.value expr) = IsExpr expr
 
 -- call = NAME "(" [ argument { "," argument } ] ")"
-abbrev pub spell_call : t.Call → List Terminal → List Terminal
+abbrev pub spell_call : t.WrittenCall → List Terminal → List Terminal
 spell_call call rest =
     at w.Name call.name ∷ at w.OpenParen call.opening ∷ spell_maybe (spell_comma_list spell_argument) call.arguments (at w.CloseParen call.closing ∷ rest)
 
 -- its arguments are of the grammar
-abbrev pub IsCall : t.Call → Type 0
+abbrev pub IsCall : t.WrittenCall → Type 0
 IsCall call = IsMaybe (IsCommaList IsArgument) call.arguments
 
 -- right side = call | expression
@@ -73,7 +73,7 @@ spell_right (t.valued expr) rest = spell expr rest
 -- its call or expression is of the grammar
 abbrev pub IsRight : t.Right → Type 0
 IsRight (t.called call) = IsCall call
-IsRight (t.valued expr) = Is expr
+IsRight (t.valued expr) = IsExpr expr
 
 -- simple statement = place assignment right-side | place ("++" | "--") | ("++" | "--") place | call
 abbrev pub spell_simple : t.Simple → List Terminal → List Terminal
@@ -98,7 +98,7 @@ spell_initial (t.braced mark opening values closing) rest =
 -- its right side or its values are of the grammar
 abbrev pub IsInitializer : t.Initializer → Type 0
 IsInitializer (t.begun mark right) = IsRight right
-IsInitializer (t.braced mark opening values closing) = IsCommaList Is values
+IsInitializer (t.braced mark opening values closing) = IsCommaList IsExpr values
 
 -- declared name = place [ initial value ]; a place with an index is an array with its length
 abbrev pub spell_item : t.InitDeclarator → List Terminal → List Terminal
@@ -123,10 +123,10 @@ spell_start (t.declared_start declaration) rest = spell_declaration declaration 
 spell_start (t.simple_start simple) rest = spell_simple simple rest
 
 -- its declaration or simple statement is of the grammar
-abbrev pub IsStart : t.ForStart → Type 0
-IsStart t.no_start = Unit {0}
-IsStart (t.declared_start declaration) = IsDeclaration declaration
-IsStart (t.simple_start simple) = IsSimple simple
+abbrev pub IsForStart : t.ForStart → Type 0
+IsForStart t.no_start = Unit {0}
+IsForStart (t.declared_start declaration) = IsDeclaration declaration
+IsForStart (t.simple_start simple) = IsSimple simple
 
 -- statement = block | ";" | simple ";" | "break" ";" | "continue" ";" | "return" [ right-side ] ";"
 -- | "if" "(" expression ")" statement [ "else" statement ] | "while" "(" expression ")" statement
@@ -180,11 +180,11 @@ abbrev mutual
   IsStmt (t.break keyword end) = Unit {0}
   IsStmt (t.continue keyword end) = Unit {0}
   IsStmt (t.return keyword value end) = IsMaybe IsRight value
-  IsStmt (t.if_only keyword opening test closing branch) = Is test × IsStmt branch
-  IsStmt (t.if_else keyword opening test closing branch else_keyword other) = Is test × IsStmt branch × (ends_open branch ≡ false) × IsStmt other
-  IsStmt (t.while keyword opening test closing body) = Is test × IsStmt body
-  IsStmt (t.do_while keyword body while_keyword opening test closing end) = IsStmt body × Is test
-  IsStmt (t.for keyword opening start start_end test test_end step closing body) = IsStart start × IsMaybe Is test × IsMaybe IsSimple step × IsStmt body
+  IsStmt (t.if_only keyword opening test closing branch) = IsExpr test × IsStmt branch
+  IsStmt (t.if_else keyword opening test closing branch else_keyword other) = IsExpr test × IsStmt branch × (ends_open branch ≡ false) × IsStmt other
+  IsStmt (t.while keyword opening test closing body) = IsExpr test × IsStmt body
+  IsStmt (t.do_while keyword body while_keyword opening test closing end) = IsStmt body × IsExpr test
+  IsStmt (t.for keyword opening start start_end test test_end step closing body) = IsForStart start × IsMaybe IsExpr test × IsMaybe IsSimple step × IsStmt body
 
   -- its declaration or statement is of the grammar
   pub IsPart : t.Part → Type 0
@@ -214,17 +214,17 @@ spell_parameter (t.text_array keyword star name opening closing) rest =
 
 -- the length of an array is of the grammar
 abbrev pub IsParameter : t.Parameter → Type 0
-IsParameter (t.array keyword name opening length closing) = IsMaybe Is length
+IsParameter (t.array keyword name opening length closing) = IsMaybe IsExpr length
 IsParameter _ = Unit {0}
 
 -- a parameter's name
-abbrev pub name_of : t.Parameter → Option Span
-name_of (t.int keyword name) = name
-name_of (t.array keyword name opening length closing) = name
-name_of (t.pointer keyword star name) = name
-name_of (t.communicator keyword name) = name
-name_of (t.text_pointers keyword star second name) = name
-name_of (t.text_array keyword star name opening closing) = name
+abbrev pub name_of_parameter : t.Parameter → Option Span
+name_of_parameter (t.int keyword name) = name
+name_of_parameter (t.array keyword name opening length closing) = name
+name_of_parameter (t.pointer keyword star name) = name
+name_of_parameter (t.communicator keyword name) = name
+name_of_parameter (t.text_pointers keyword star second name) = name
+name_of_parameter (t.text_array keyword star name opening closing) = name
 
 -- parameters = [ "void" | parameter { "," parameter } ]
 abbrev pub spell_parameters : t.Parameters → List Terminal → List Terminal
@@ -254,12 +254,12 @@ has (Some a) = true
 -- each of these parameters has a name
 abbrev pub are_named : List (Span × t.Parameter) → Bool
 are_named [] = true
-are_named (first ∷ more) = if has (name_of first.1) then are_named more else false
+are_named (first ∷ more) = if has (name_of_parameter first.1) then are_named more else false
 
 -- each parameter has a name
-abbrev pub is_named : t.Parameters → Bool
-is_named (t.parameters (t.comma_list first more)) = if has (name_of first) then are_named more else false
-is_named _ = true
+abbrev pub all_named : t.Parameters → Bool
+all_named (t.parameters (t.comma_list first more)) = if has (name_of_parameter first) then are_named more else false
+all_named _ = true
 
 -- value = NUMBER | "-" NUMBER | "(" value ")"
 abbrev pub spell_value : t.Value → List Terminal → List Terminal
@@ -280,7 +280,7 @@ spell_external (t.prototype head end) rest = spell_head head (at w.Semicolon end
 -- names of parameters may be missing only where the head ends with `;`
 abbrev pub IsExternal : t.ExternalDeclaration → Type 0
 IsExternal (t.define keyword name value end) = IsValue value
-IsExternal (t.function head opening parts closing) = IsHead head × (is_named head.listed ≡ true) × AreParts parts
+IsExternal (t.function head opening parts closing) = IsHead head × (all_named head.listed ≡ true) × AreParts parts
 IsExternal (t.prototype head end) = IsHead head
 
 -- the external declarations one after the other

@@ -2,7 +2,7 @@
 use Rattle.std.specs.Prelude.{List, [], ◌∷◌, map, option_map}
 use Rattle.c_grammar.specs.declared.statement.Argument.{Argument}
 use Rattle.c_grammar.specs.declared.statement.Argument.TheVariants as argument
-use Rattle.c_grammar.specs.declared.statement.Call.{Call}
+use Rattle.c_grammar.specs.declared.statement.WrittenCall.{WrittenCall}
 use Rattle.c_grammar.specs.declared.statement.Declaration.{Declaration}
 use Rattle.c_grammar.specs.declared.statement.ForStart.{ForStart}
 use Rattle.c_grammar.specs.declared.statement.ForStart.TheVariants as start
@@ -41,7 +41,7 @@ argument_view (argument.Address mark place) = t.address mark (place_view place)
 argument_view (argument.Value expr) = t.value (view expr)
 
 -- of a call
-abbrev pub call_view : Call → t.Call
+abbrev pub call_view : WrittenCall → t.WrittenCall
 call_view call = record {
   name = call.name;
   opening = call.opening;

@@ -36,7 +36,7 @@ pub data Argument : Type 0 where
   value : Expr → Argument
 
 -- a call
-pub record Call : Type 0 where
+pub record WrittenCall : Type 0 where
   pub name : Span
   pub opening : Span
   pub arguments : Option (CommaList Argument)
@@ -44,7 +44,7 @@ pub record Call : Type 0 where
 
 -- a right side
 pub data Right : Type 0 where
-  called : Call → Right
+  called : WrittenCall → Right
   valued : Expr → Right
 
 -- a statement that needs a `;`, without it
@@ -52,7 +52,7 @@ pub data Simple : Type 0 where
   assign : Place → Symbol → Span → Right → Simple
   after : Place → Symbol → Span → Simple
   before : Symbol → Span → Place → Simple
-  invoke : Call → Simple
+  invoke : WrittenCall → Simple
 
 -- what a declared name begins with
 pub data Initializer : Type 0 where

@@ -27,7 +27,7 @@ pub enum Argument {
 }
 
 #[derive(Drop)]
-pub struct Call {
+pub struct WrittenCall {
     pub name: Span,
     pub opening: Span,
     pub arguments: Option<CommaList<Argument>>,
@@ -37,7 +37,7 @@ pub struct Call {
 /// A right side.
 #[derive(Drop)]
 pub enum Right {
-    Call(Call),
+    Call(WrittenCall),
     Value(Expr),
 }
 
@@ -62,7 +62,7 @@ pub enum Simple {
         at: Span,
         place: Place,
     },
-    Call(Call),
+    Call(WrittenCall),
 }
 
 /// What a declared name begins with.

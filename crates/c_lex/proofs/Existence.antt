@@ -6,8 +6,8 @@ use Rattle.std.specs.Str.{bytes_eq}
 use Rattle.std.specs.Str.Parse.{AllDigits}
 use Rattle.std.proofs.lemmas.Bool.{cases_Bool, cases_order, eq-eqb, eqb-true, le-leb, leb-true, ltb-true, false_from_ne_true}
 use Rattle.std.proofs.lemmas.Slice.Eq.{bytes_eq-Decides}
-use Rattle.c_lex.specs.declared.limits.TheConstants.{GREATEST_NUMBER}
-use Rattle.c_lex.specs.Bytes.{IsRun, is_of, is_space, is_letter, is_digit}
+use Rattle.c_lex.specs.declared.limits.TheConstants.{GREATEST_LITERAL}
+use Rattle.c_lex.specs.Bytes.{IsStretch, is_in_class, is_space, is_letter, is_digit}
 use Rattle.c_lex.specs.Marks.{mark_length}
 use Rattle.c_lex.specs.Openings.{begins_line, opening, opening_of}
 use Rattle.c_lex.specs.Literals.{IsLiteral, base, digits_of, literal_value}
@@ -15,9 +15,9 @@ use Rattle.c_lex.specs.Words.{is_left_out}
 use Rattle.c_lex.specs.Comments.{closes, IsFirstClose, NeverCloses}
 use Rattle.c_lex.specs.Texts.{Inside, ends, goes_on, ends_line, character_length}
 use Rattle.c_lex.specs.Steps as steps
-use Rattle.c_lex.specs.Steps.{Stands, IsStep, EndsWithin}
+use Rattle.c_lex.specs.Steps.{OpeningGivesStep, IsLexicalStep, EndsWithin}
 use Rattle.c_lex.specs.Readings as readings
-use Rattle.c_lex.specs.Readings.{Reading, Tokens, FirstFault, Reads, AreTokens, IsFirstFault, with_token, token_at, stays_on_define}
+use Rattle.c_lex.specs.Readings.{LexicalReading, Tokens, FirstFault, ReadsTokens, AreTokens, IsFirstLexicalFault, with_token, token_at, stays_on_define}
 use Rattle.c_lex.specs.Places.{IsLineBegin, IsPlaceOf}
 use Rattle.c_lex.specs.declared.bytes.ByteClass.{ByteClass}
 use Rattle.c_lex.specs.declared.bytes.ByteClass.TheVariants.{Space, InWord, InLine, Printable}
@@ -29,8 +29,8 @@ use Rattle.c_lex.specs.declared.token.TokenKind.TheVariants as kinds
 use Rattle.c_lex.specs.declared.fault.SourceFault.{SourceFault}
 use Rattle.c_lex.specs.declared.fault.Why.{Why}
 use Rattle.c_lex.specs.declared.fault.Why.TheVariants as whys
-use Rattle.c_lex.specs.declared.step.Step.{Step}
-use Rattle.c_lex.specs.declared.step.Step.TheVariants.{Skip, Lexeme, Bad}
+use Rattle.c_lex.specs.declared.step.LexicalStep.{LexicalStep}
+use Rattle.c_lex.specs.declared.step.LexicalStep.TheVariants.{Skip, Lexeme, Bad}
 use Rattle.c_lex.proofs.MarkLaws.{mark_length-within, past_is_zero}
 use Rattle.c_lex.proofs.Laws.{end_past, opening_past}
 
@@ -44,32 +44,32 @@ onward P from here after k low = elim (cases_order from k) [
   | inr (inr more) ↦ absurd (omega arith)
 ]
 
-run_nothing : (class : ByteClass) (text : List ℕ) (from limit : ℕ) → from ≡ limit → IsRun class text from limit from
+run_nothing : (class : ByteClass) (text : List ℕ) (from limit : ℕ) → from ≡ limit → IsStretch class text from limit from
 run_nothing class text from limit e = record { low = omega arith; high = omega arith; each = λ k a b. absurd (omega arith); longest = λ less. absurd (omega arith) }
 
-run_stops : (class : ByteClass) (text : List ℕ) (from limit : ℕ) → from ≤ limit → is_of class (slice_index text from) ≡ false → IsRun class text from limit from
+run_stops : (class : ByteClass) (text : List ℕ) (from limit : ℕ) → from ≤ limit → is_in_class class (slice_index text from) ≡ false → IsStretch class text from limit from
 run_stops class text from limit low stop = record { low = omega arith; high = low; each = λ k a b. absurd (omega arith); longest = λ less. stop }
 
-run_more : (class : ByteClass) (text : List ℕ) (from limit end : ℕ) → is_of class (slice_index text from) ≡ true → IsRun class text (suc from) limit end → IsRun class text from limit end
+run_more : (class : ByteClass) (text : List ℕ) (from limit end : ℕ) → is_in_class class (slice_index text from) ≡ true → IsStretch class text (suc from) limit end → IsStretch class text from limit end
 run_more class text from limit end here run = record {
   low = let low = run.low in omega arith;
   high = run.high;
-  each = onward (λ k. k < end → is_of class (slice_index text k) ≡ true) from (λ _. here) run.each;
+  each = onward (λ k. k < end → is_in_class class (slice_index text k) ≡ true) from (λ _. here) run.each;
   longest = run.longest;
 }
 
-run_within : (fuel : ℕ) (class : ByteClass) (text : List ℕ) (from limit : ℕ) → from ≤ limit → limit - from ≤ fuel → (end : ℕ) × IsRun class text from limit end
+run_within : (fuel : ℕ) (class : ByteClass) (text : List ℕ) (from limit : ℕ) → from ≤ limit → limit - from ≤ fuel → (end : ℕ) × IsStretch class text from limit end
 run_within zero class text from limit low few = (from, run_nothing class text from limit (omega arith))
 run_within (suc n) class text from limit low few = elim (cases_order from limit) [
   | inl e ↦ (from, run_nothing class text from limit e)
-  | inr (inl less) ↦ elim (cases_Bool (is_of class (slice_index text from))) [
+  | inr (inl less) ↦ elim (cases_Bool (is_in_class class (slice_index text from))) [
     | inl on ↦ let after = run_within n class text (suc from) limit (omega arith) (omega arith) in (after.0, run_more class text from limit after.0 on after.1)
     | inr off ↦ (from, run_stops class text from limit low off)
   ]
   | inr (inr more) ↦ absurd (omega arith)
 ]
 
-run : (class : ByteClass) (text : List ℕ) (from limit : ℕ) → from ≤ limit → (end : ℕ) × IsRun class text from limit end
+run : (class : ByteClass) (text : List ℕ) (from limit : ℕ) → from ≤ limit → (end : ℕ) × IsStretch class text from limit end
 run class text from limit low = run_within (limit - from) class text from limit low (omega arith)
 
 close_within : (fuel : ℕ) (text : List ℕ) (from : ℕ) → length text - from ≤ fuel → ((close : ℕ) × IsFirstClose text from close) ⊎ NeverCloses text from
@@ -159,7 +159,7 @@ small_or_not n m = elim (cases_order n m) [
 literal_or_not : (word : List ℕ) → IsLiteral word ⊎ (IsLiteral word → ⊥)
 literal_or_not word = elim (small_or_not 1 (length (digits_of word))) [
   | inl some ↦ elim (all_digits_or_not (base word) (digits_of word)) [
-    | inl all ↦ elim (small_or_not (literal_value word) GREATEST_NUMBER) [
+    | inl all ↦ elim (small_or_not (literal_value word) GREATEST_LITERAL) [
       | inl small ↦ inl ((omega arith, all), small)
       | inr never ↦ inr (λ h. never h.1)
     ]
@@ -177,8 +177,8 @@ is_no_word word other test same = let passes = (bytes_eq-Decides word other).1 s
 -- ---- what is at a place
 
 record Found (text : List ℕ) (on_define : Bool) (at : ℕ) (o : Opening) : Type 0 where
-  step : Step
-  stands : Stands text on_define at o step
+  step : LexicalStep
+  stands : OpeningGivesStep text on_define at o step
   within : EndsWithin text on_define at step
 
 module _ (text : List ℕ) (at : ℕ) (less : at < length text) where
@@ -203,7 +203,7 @@ module _ (text : List ℕ) (at : ℕ) (less : at < length text) where
       elim (cases_order newline.0 close) [
         | inl e ↦ record {
           step = Skip (close + 2);
-          stands = steps.comment (record { closed = is; on_line = λ define. subst (λ end. IsRun InLine text at close end) e newline.1 });
+          stands = steps.comment (record { closed = is; on_line = λ define. subst (λ end. IsStretch InLine text at close end) e newline.1 });
           within = (omega arith, is.high);
         }
         | inr (inl before) ↦ record {
@@ -289,7 +289,7 @@ module _ (text : List ℕ) (at : ℕ) (less : at < length text) where
       elim (cases_order place.0 inside.end) [
         | inl e ↦ record {
           step = Lexeme kinds.Text (inside.end + 1);
-          stands = steps.quoted (record { inside = inside.inside; closed = closed; printable = subst (λ end. IsRun Printable text (at + 1) inside.end end) e place.1 });
+          stands = steps.quoted (record { inside = inside.inside; closed = closed; printable = subst (λ end. IsStretch Printable text (at + 1) inside.end end) e place.1 });
           within = (omega arith, omega arith);
         }
         | inr (inl before) ↦ record {
@@ -353,7 +353,7 @@ found_at_end text at past =
 
 -- what is read from a place on
 abbrev HasReading : List ℕ → Bool → ℕ → Type 0
-HasReading text on_define at = (reading : Reading) × Reads text on_define at reading
+HasReading text on_define at = (reading : LexicalReading) × ReadsTokens text on_define at reading
 
 abbrev left : List ℕ → Bool → ℕ → ℕ
 left text on_define at = 2 * (length text - at) + cond on_define 1 0
@@ -363,8 +363,8 @@ once_more true n len at end on within few = omega arith
 once_more false n len at end on within few = omega arith
 
 module _ (n : ℕ) (text : List ℕ) (again : (on_define : Bool) (at : ℕ) → at ≤ length text → left text on_define at ≤ n → HasReading text on_define at) where
-  goes_on_by : (on_define : Bool) (at : ℕ) → at ≤ length text → left text on_define at ≤ suc n → (step : Step)
-      → IsStep text on_define at step → EndsWithin text on_define at step → HasReading text on_define at
+  goes_on_by : (on_define : Bool) (at : ℕ) → at ≤ length text → left text on_define at ≤ suc n → (step : LexicalStep)
+      → IsLexicalStep text on_define at step → EndsWithin text on_define at step → HasReading text on_define at
   goes_on_by d at low few (Skip end) is within =
       let on = within.0 in
       let after = again d end within.1 (omega arith) in
@@ -454,11 +454,11 @@ fault_of text place why =
       record { begin = begin.0; begins = begin.1; line_is = refl; column_is = refl },
     )
 
-pub tokens_or_fault : (text : List ℕ) → ((list : List Token) × AreTokens text list) ⊎ ((fault : SourceFault) × IsFirstFault text fault)
+pub tokens_or_fault : (text : List ℕ) → ((list : List Token) × AreTokens text list) ⊎ ((fault : SourceFault) × IsFirstLexicalFault text fault)
 tokens_or_fault text = told (reads_within (left text false 0) text false 0 (omega arith) (omega arith))
   where
-    told : HasReading text false 0 → ((list : List Token) × AreTokens text list) ⊎ ((fault : SourceFault) × IsFirstFault text fault)
+    told : HasReading text false 0 → ((list : List Token) × AreTokens text list) ⊎ ((fault : SourceFault) × IsFirstLexicalFault text fault)
     told (Tokens list, reads) = inl (list, reads)
     told (FirstFault place why, reads) =
         let there = fault_of text place why in
-        inr (there.0, (place, subst (λ w. Reads text false 0 (FirstFault place w)) (sym there.1) reads, there.2))
+        inr (there.0, (place, subst (λ w. ReadsTokens text false 0 (FirstFault place w)) (sym there.1) reads, there.2))

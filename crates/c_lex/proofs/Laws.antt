@@ -3,15 +3,15 @@ use Rattle.std.proofs.Common.{◌≡◌, ◌⊎◌, inl, inr, ◌<◌, ◌≤◌
 use Rattle.std.specs.Prelude.{slice_range, nat_le, if◌then◌else◌}
 use Rattle.std.proofs.lemmas.Bool.{cases_order, le-leb, leb-true, false_from_ne_true}
 use Rattle.std.proofs.lemmas.List.{append-nil}
-use Rattle.c_lex.specs.Bytes.{IsRun}
+use Rattle.c_lex.specs.Bytes.{IsStretch}
 use Rattle.c_lex.specs.Openings.{opening}
 use Rattle.c_lex.specs.Words.{IsDirective, is_left_out}
 use Rattle.c_lex.specs.Comments.{IsFirstClose, NeverCloses, IsComment, IsSplitComment}
-use Rattle.c_lex.specs.Texts.{Inside, ends, goes_on, IsText, IsBadInside}
+use Rattle.c_lex.specs.Texts.{Inside, ends, goes_on, IsStringLiteral, IsBadInside}
 use Rattle.c_lex.specs.Steps as steps
-use Rattle.c_lex.specs.Steps.{Stands, IsStep}
+use Rattle.c_lex.specs.Steps.{OpeningGivesStep, IsLexicalStep}
 use Rattle.c_lex.specs.Readings as readings
-use Rattle.c_lex.specs.Readings.{Reading, Tokens, FirstFault, Reads, with_token, token_at, stays_on_define, IsFirstFault}
+use Rattle.c_lex.specs.Readings.{LexicalReading, Tokens, FirstFault, ReadsTokens, with_token, token_at, stays_on_define, IsFirstLexicalFault}
 use Rattle.c_lex.specs.declared.bytes.ByteClass.{ByteClass}
 use Rattle.c_lex.specs.declared.bytes.ByteClass.TheVariants.{InWord, InLine, Printable}
 use Rattle.c_lex.specs.declared.opening.Opening.{Opening}
@@ -23,11 +23,11 @@ use Rattle.c_lex.specs.Places.{IsLineBegin, IsPlaceOf}
 use Rattle.c_lex.specs.declared.fault.SourceFault.{SourceFault}
 use Rattle.c_lex.specs.declared.fault.Why.{Why}
 use Rattle.c_lex.specs.declared.fault.Why.TheVariants as whys
-use Rattle.c_lex.specs.declared.step.Step.{Step}
-use Rattle.c_lex.specs.declared.step.Step.TheVariants.{Skip, Lexeme, Bad}
+use Rattle.c_lex.specs.declared.step.LexicalStep.{LexicalStep}
+use Rattle.c_lex.specs.declared.step.LexicalStep.TheVariants.{Skip, Lexeme, Bad}
 
 -- a run has one end
-pub run_one : {class : ByteClass} {text : List ℕ} {from limit a b : ℕ} → IsRun class text from limit a → IsRun class text from limit b → a ≡ b
+pub run_one : {class : ByteClass} {text : List ℕ} {from limit a b : ℕ} → IsStretch class text from limit a → IsStretch class text from limit b → a ≡ b
 run_one {class} {text} {from} {limit} {a} {b} u v = elim (cases_order a b) [
   | inl e ↦ e
   | inr (inl less) ↦ absurd (let h = v.high in let t = v.each a u.low less in let f = u.longest (omega arith) in cc)
@@ -54,34 +54,34 @@ never_endless {text} {from} {a} u never = let t = u.is in let f = never a u.low 
 never_split : {text : List ℕ} {on_define : Bool} {at a : ℕ} → IsComment text on_define at a → on_define ≡ true → IsSplitComment text at → ⊥
 never_split {text} {on_define} {at} {a} u define v =
     let e : v.close ≡ a = close_one v.closed u.closed in
-    let f : v.newline ≡ a = run_one (subst (λ close. IsRun InLine text at close v.newline) e v.run) (u.on_line define) in
+    let f : v.newline ≡ a = run_one (subst (λ close. IsStretch InLine text at close v.newline) e v.run) (u.on_line define) in
     let before = v.before in
     omega arith
 
 directive_one : {text : List ℕ} {at a b : ℕ} {word other : List ℕ} → IsDirective text at a word → IsDirective text at b other → (a ≡ b) × (word ≡ other)
 directive_one {text} {at} {a} {b} {word} {other} u v =
     let e : v.from ≡ u.from = run_one v.spaces u.spaces in
-    let f : a ≡ b = run_one u.run (subst (λ from. IsRun InWord text from (length text) b) e v.run) in
+    let f : a ≡ b = run_one u.run (subst (λ from. IsStretch InWord text from (length text) b) e v.run) in
     let g : slice_range text v.from b ≡ slice_range text u.from a = ap (λ from. slice_range text from b) e ∙ ap (λ end. slice_range text u.from end) (sym f) in
     (f, u.is ∙ sym g ∙ sym v.is)
 
-text_one : {text : List ℕ} {at a b : ℕ} → IsText text at a → IsText text at b → a ≡ b
+text_one : {text : List ℕ} {at a b : ℕ} → IsStringLiteral text at a → IsStringLiteral text at b → a ≡ b
 text_one u v = inside_one u.inside v.inside
 
-never_bad : {text : List ℕ} {at a place : ℕ} → IsText text at a → IsBadInside text at place → ⊥
+never_bad : {text : List ℕ} {at a place : ℕ} → IsStringLiteral text at a → IsBadInside text at place → ⊥
 never_bad {text} {at} {a} {place} u v =
     let e : v.close ≡ a = inside_one v.inside u.inside in
-    let f : place ≡ a = run_one (subst (λ close. IsRun Printable text (at + 1) close place) e v.printable) u.printable in
+    let f : place ≡ a = run_one (subst (λ close. IsStretch Printable text (at + 1) close place) e v.printable) u.printable in
     let before = v.before in
     omega arith
 
 bad_one : {text : List ℕ} {at a b : ℕ} → IsBadInside text at a → IsBadInside text at b → a ≡ b
 bad_one {text} {at} {a} {b} u v =
     let e : v.close ≡ u.close = inside_one v.inside u.inside in
-    run_one u.printable (subst (λ close. IsRun Printable text (at + 1) close b) e v.printable)
+    run_one u.printable (subst (λ close. IsStretch Printable text (at + 1) close b) e v.printable)
 
 -- one thing stands at a place
-pub one_step : (text : List ℕ) (on_define : Bool) (at : ℕ) {o : Opening} {s t : Step} → Stands text on_define at o s → Stands text on_define at o t → s ≡ t
+pub one_step : (text : List ℕ) (on_define : Bool) (at : ℕ) {o : Opening} {s t : LexicalStep} → OpeningGivesStep text on_define at o s → OpeningGivesStep text on_define at o t → s ≡ t
 one_step text m at (steps.define_ends h) (steps.define_ends k) = refl
 one_step text m at (steps.define_line_ends h) (steps.define_line_ends k) = refl
 one_step text m at (steps.define_line_ends h) (steps.line_ends k) = cc
@@ -99,7 +99,7 @@ one_step text m at (steps.split_comment d u) (steps.comment v) = absurd (never_s
 one_step text m at (steps.split_comment d u) (steps.endless_comment v) = refl
 one_step text m at (steps.split_comment d u) (steps.split_comment e v) = refl
 one_step text m at (steps.include d u) (steps.include {stop = stop} e v) =
-    ap Skip (run_one u (subst (λ end. IsRun InLine text end (length text) stop) (sym (directive_one d e).0) v))
+    ap Skip (run_one u (subst (λ end. IsStretch InLine text end (length text) stop) (sym (directive_one d e).0) v))
 one_step text m at (steps.include d u) (steps.define e) = absurd (let same = (directive_one d e).1 in cc)
 one_step text m at (steps.include d u) (steps.other_directive e i n) = absurd (i (sym (directive_one d e).1))
 one_step text m at (steps.define d) (steps.include e u) = absurd (let same = (directive_one d e).1 in cc)
@@ -129,14 +129,14 @@ one_step text m at steps.mark steps.mark = refl
 one_step text m at steps.bad_byte steps.bad_byte = refl
 
 -- the text ends, and no define's line does
-nothing_at_end : (text : List ℕ) (at : ℕ) (step : Step) → Stands text false at opens.TextEnd step → ⊥
+nothing_at_end : (text : List ℕ) (at : ℕ) (step : LexicalStep) → OpeningGivesStep text false at opens.TextEnd step → ⊥
 nothing_at_end text at step (steps.define_ends h) = cc
 
-ends_or_goes_on : {A : Type 0} (text : List ℕ) (at : ℕ) (step : Step) → opening text at ≡ opens.TextEnd → IsStep text false at step → A
-ends_or_goes_on text at step e s = absurd (nothing_at_end text at step (subst (λ o. Stands text false at o step) e s))
+ends_or_goes_on : {A : Type 0} (text : List ℕ) (at : ℕ) (step : LexicalStep) → opening text at ≡ opens.TextEnd → IsLexicalStep text false at step → A
+ends_or_goes_on text at step e s = absurd (nothing_at_end text at step (subst (λ o. OpeningGivesStep text false at o step) e s))
 
 -- a place has one reading
-pub one_reading : (text : List ℕ) {on_define : Bool} {at : ℕ} {r q : Reading} → Reads text on_define at r → Reads text on_define at q → r ≡ q
+pub one_reading : (text : List ℕ) {on_define : Bool} {at : ℕ} {r q : LexicalReading} → ReadsTokens text on_define at r → ReadsTokens text on_define at q → r ≡ q
 one_reading text (readings.at_end e) (readings.at_end f) = refl
 one_reading text (readings.at_end e) (readings.skip s r) = ends_or_goes_on text _ _ e s
 one_reading text (readings.at_end e) (readings.lexeme s r) = ends_or_goes_on text _ _ e s
@@ -145,7 +145,7 @@ one_reading text (readings.skip s r) (readings.at_end e) = ends_or_goes_on text 
 one_reading text (readings.skip {on_define = m} {end = a} {reading = x} s r) (readings.skip {end = b} {reading = y} t q) =
     let e = one_step text _ _ s t in
     let f : b ≡ a = cc in
-    one_reading text r (subst (λ end. Reads text m end y) f q)
+    one_reading text r (subst (λ end. ReadsTokens text m end y) f q)
 one_reading text (readings.skip s r) (readings.lexeme t q) = let e = one_step text _ _ s t in cc
 one_reading text (readings.skip s r) (readings.bad t) = let e = one_step text _ _ s t in cc
 one_reading text (readings.lexeme s r) (readings.at_end e) = ends_or_goes_on text _ _ e s
@@ -154,7 +154,7 @@ one_reading text (readings.lexeme {on_define = m} {at = at} {end = a} {kind = k}
     let e = one_step text _ _ s t in
     let f : b ≡ a = cc in
     let g : j ≡ k = cc in
-    let h : x ≡ y = one_reading text r (subst (λ end. Reads text (stays_on_define k m) end y) f (subst (λ kind. Reads text (stays_on_define kind m) b y) g q)) in
+    let h : x ≡ y = one_reading text r (subst (λ end. ReadsTokens text (stays_on_define k m) end y) f (subst (λ kind. ReadsTokens text (stays_on_define kind m) b y) g q)) in
     cc
 one_reading text (readings.lexeme s r) (readings.bad t) = let e = one_step text _ _ s t in cc
 one_reading text (readings.bad s) (readings.at_end e) = ends_or_goes_on text _ _ e s
@@ -163,11 +163,11 @@ one_reading text (readings.bad s) (readings.lexeme t q) = let e = one_step text 
 one_reading text (readings.bad s) (readings.bad t) = let e = one_step text _ _ s t in cc
 
 -- the tokens before a reading
-abbrev pub after : List Token → Reading → Reading
+abbrev pub after : List Token → LexicalReading → LexicalReading
 after found (Tokens tokens) = Tokens (found ++ tokens)
 after found (FirstFault place why) = FirstFault place why
 
-pub after_one : (found : List Token) (token : Token) (reading : Reading) → after (found ++ token ∷ []) reading ≡ after found (with_token token reading)
+pub after_one : (found : List Token) (token : Token) (reading : LexicalReading) → after (found ++ token ∷ []) reading ≡ after found (with_token token reading)
 after_one found token (Tokens tokens) = ap Tokens (append_assoc found (token ∷ []) tokens)
 after_one found token (FirstFault place why) = refl
 
@@ -217,7 +217,7 @@ begin_one {text} {place} {a} {b} u v = elim (cases_order a b) [
       | inr e ↦ u.same_line (b - 1) (omega arith) (let before = v.before in omega arith) e
     ]
 
-pub fault_one : (text : List ℕ) (first other : SourceFault) → IsFirstFault text first → IsFirstFault text other → first ≡ other
+pub fault_one : (text : List ℕ) (first other : SourceFault) → IsFirstLexicalFault text first → IsFirstLexicalFault text other → first ≡ other
 fault_one text first other u v =
     let e = one_reading text u.1 v.1 in
     let why : first.why ≡ other.why = cc in
@@ -231,8 +231,8 @@ fault_one text first other u v =
 
 -- what was found is all, where the text ends
 pub read_all : (text : List ℕ) (on_define : Bool) (at : ℕ) (found : List Token)
-    → ((reading : Reading) → Reads text on_define at reading → Reads text false 0 (after found reading))
-    → on_define ≡ false → length text ≤ at → Reads text false 0 (Tokens found)
+    → ((reading : LexicalReading) → ReadsTokens text on_define at reading → ReadsTokens text false 0 (after found reading))
+    → on_define ≡ false → length text ≤ at → ReadsTokens text false 0 (Tokens found)
 read_all text m at found onward no_define past =
-    subst (Reads text false 0) (ap Tokens (append-nil found))
-    (onward (Tokens []) (subst (λ define. Reads text define at (Tokens [])) (sym no_define) (readings.at_end (opening_past text at past))))
+    subst (ReadsTokens text false 0) (ap Tokens (append-nil found))
+    (onward (Tokens []) (subst (λ define. ReadsTokens text define at (Tokens [])) (sym no_define) (readings.at_end (opening_past text at past))))

@@ -5,20 +5,20 @@ use Rattle.c_lex.specs.Openings.{opening}
 use Rattle.std.specs.Prelude.{slice_index}
 use Rattle.c_lex.specs.Texts.{Inside, ends, goes_on}
 use Rattle.c_lex.specs.Steps as steps
-use Rattle.c_lex.specs.Steps.{Stands}
+use Rattle.c_lex.specs.Steps.{OpeningGivesStep}
 use Rattle.c_lex.specs.Readings as readings
-use Rattle.c_lex.specs.Readings.{Reading, Tokens, FirstFault, Reads, with_token, token_at, AreTokens, AreSlices}
+use Rattle.c_lex.specs.Readings.{LexicalReading, Tokens, FirstFault, ReadsTokens, with_token, token_at, AreTokens, AreSlices}
 use Rattle.c_lex.specs.declared.opening.Opening.{Opening}
 use Rattle.c_lex.specs.declared.opening.Opening.TheVariants as opens
 use Rattle.c_lex.specs.declared.token.Token.{Token}
 use Rattle.c_lex.specs.declared.token.TokenKind.{TokenKind}
-use Rattle.c_lex.specs.declared.step.Step.{Step}
-use Rattle.c_lex.specs.declared.step.Step.TheVariants.{Skip, Lexeme, Bad}
+use Rattle.c_lex.specs.declared.step.LexicalStep.{LexicalStep}
+use Rattle.c_lex.specs.declared.step.LexicalStep.TheVariants.{Skip, Lexeme, Bad}
 use Rattle.c_lex.proofs.MarkLaws.{mark_length-within, past_is_zero}
 use Rattle.c_lex.proofs.Laws.{opening_past}
 
 -- a step goes on within the text
-abbrev pub GoesOn : List ℕ → ℕ → Step → Type 0
+abbrev pub GoesOn : List ℕ → ℕ → LexicalStep → Type 0
 GoesOn text at (Skip end) = (at ≤ end) × (end ≤ length text)
 GoesOn text at (Lexeme kind end) = (at ≤ end) × (end ≤ length text)
 GoesOn text at (Bad place why) = Unit {0}
@@ -41,7 +41,7 @@ closed_inside text k e = elim (cases_lt k (length text)) [
   | inr past ↦ absurd (let z : slice_index text k ≡ 0 = past_is_zero text k past in omega arith)
 ]
 
-pub goes_on_inside : (text : List ℕ) (on_define : Bool) (at : ℕ) {o : Opening} {step : Step} → at ≤ length text → opening text at ≡ o → Stands text on_define at o step → GoesOn text at step
+pub goes_on_inside : (text : List ℕ) (on_define : Bool) (at : ℕ) {o : Opening} {step : LexicalStep} → at ≤ length text → opening text at ≡ o → OpeningGivesStep text on_define at o step → GoesOn text at step
 goes_on_inside text m at low e (steps.define_ends h) = (omega arith, low)
 goes_on_inside text m at low e (steps.define_line_ends h) = (omega arith, low)
 goes_on_inside text m at low e (steps.line_ends h) = let less = inside text at opens.Newline e (λ q. cc) in (omega arith, omega arith)
@@ -67,7 +67,7 @@ goes_on_inside text m at low e steps.mark =
     let z = mark_length-within text at low in (omega arith, z)
 goes_on_inside text m at low e steps.bad_byte = tt
 
-AreSlicesOf : List ℕ → ℕ → Reading → Type 0
+AreSlicesOf : List ℕ → ℕ → LexicalReading → Type 0
 AreSlicesOf text from (Tokens tokens) = AreSlices text from tokens
 AreSlicesOf text from (FirstFault place why) = Unit {0}
 
@@ -75,19 +75,19 @@ from_later : (text : List ℕ) (from later : ℕ) (tokens : List Token) → from
 from_later text from later [] h s = tt
 from_later text from later (token ∷ tokens) h s = let a = s.0 in (omega arith, s.1, s.2)
 
-later_of : (text : List ℕ) (from later : ℕ) (reading : Reading) → from ≤ later → AreSlicesOf text later reading → AreSlicesOf text from reading
+later_of : (text : List ℕ) (from later : ℕ) (reading : LexicalReading) → from ≤ later → AreSlicesOf text later reading → AreSlicesOf text from reading
 unfolding AreSlicesOf
 later_of text from later (Tokens tokens) h s = from_later text from later tokens h s
 later_of text from later (FirstFault place why) h s = tt
 
-one_more : (text : List ℕ) (kind : TokenKind) (at end : ℕ) (reading : Reading) → at ≤ end → end ≤ length text → AreSlicesOf text end reading → AreSlicesOf text at (with_token (token_at kind at end) reading)
+one_more : (text : List ℕ) (kind : TokenKind) (at end : ℕ) (reading : LexicalReading) → at ≤ end → end ≤ length text → AreSlicesOf text end reading → AreSlicesOf text at (with_token (token_at kind at end) reading)
 unfolding AreSlicesOf
 one_more text kind at end (Tokens tokens) h k s =
     let e : end ≡ at + (end - at) = omega arith in
     (omega arith, omega arith, subst (λ z. AreSlices text z tokens) e s)
 one_more text kind at end (FirstFault place why) h k s = tt
 
-slices_of : (text : List ℕ) {on_define : Bool} {at : ℕ} {reading : Reading} → at ≤ length text → Reads text on_define at reading → AreSlicesOf text at reading
+slices_of : (text : List ℕ) {on_define : Bool} {at : ℕ} {reading : LexicalReading} → at ≤ length text → ReadsTokens text on_define at reading → AreSlicesOf text at reading
 unfolding AreSlicesOf
 slices_of text low (readings.at_end e) = tt
 slices_of text low (readings.skip {on_define = m} {at = at} {end = end} {reading = r} s q) =

@@ -16,15 +16,15 @@ abbrev pub is_letter : ℕ → Bool
 is_letter byte = ((nat_le 65 byte && nat_le byte 90) || (nat_le 97 byte && nat_le byte 122)) || (byte == 95)
 
 -- the byte is of this kind
-abbrev pub is_of : ByteClass → ℕ → Bool
-is_of Space byte = is_space byte
-is_of InLine byte = not (byte == 10)
-is_of InWord byte = is_letter byte || is_digit byte
-is_of Printable byte = nat_le 32 byte && nat_le byte 126
+abbrev pub is_in_class : ByteClass → ℕ → Bool
+is_in_class Space byte = is_space byte
+is_in_class InLine byte = not (byte == 10)
+is_in_class InWord byte = is_letter byte || is_digit byte
+is_in_class Printable byte = nat_le 32 byte && nat_le byte 126
 
 -- the bytes of one kind from a place on, as far as they go, but not past the limit
-pub record IsRun (class : ByteClass) (text : List ℕ) (from limit end : ℕ) : Type 0 where
+pub record IsStretch (class : ByteClass) (text : List ℕ) (from limit end : ℕ) : Type 0 where
   pub low : from ≤ end
   pub high : end ≤ limit
-  pub each : (k : ℕ) → from ≤ k → k < end → is_of class (slice_index text k) ≡ true
-  pub longest : end < limit → is_of class (slice_index text end) ≡ false
+  pub each : (k : ℕ) → from ≤ k → k < end → is_in_class class (slice_index text k) ≡ true
+  pub longest : end < limit → is_in_class class (slice_index text end) ≡ false

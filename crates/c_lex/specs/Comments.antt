@@ -1,6 +1,6 @@
 -- Comments between marks. (ISO C, "Comments".)
 use Rattle.std.specs.Prelude.{◌≡◌, ◌≤◌, ◌<◌, ◌+◌, ◌==◌, ◌&&◌, ℕ, Bool, true, false, List, length, slice_index}
-use Rattle.c_lex.specs.Bytes.{IsRun}
+use Rattle.c_lex.specs.Bytes.{IsStretch}
 use Rattle.c_lex.specs.declared.bytes.ByteClass.TheVariants.{InLine}
 
 -- `*/` is there
@@ -21,12 +21,12 @@ NeverCloses text from = (k : ℕ) → from ≤ k → k + 2 ≤ length text → c
 -- from `/*` to the first `*/` after it; a comment on a line that is a define has no newline
 pub record IsComment (text : List ℕ) (on_define : Bool) (at close : ℕ) : Type 0 where
   pub closed : IsFirstClose text (at + 2) close
-  pub on_line : on_define ≡ true → IsRun InLine text at close close
+  pub on_line : on_define ≡ true → IsStretch InLine text at close close
 
 -- a comment with a newline in it
 pub record IsSplitComment (text : List ℕ) (at : ℕ) : Type 0 where
   pub close : ℕ
   pub closed : IsFirstClose text (at + 2) close
   pub newline : ℕ
-  pub run : IsRun InLine text at close newline
+  pub run : IsStretch InLine text at close newline
   pub before : newline < close

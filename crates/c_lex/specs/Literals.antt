@@ -1,7 +1,7 @@
 -- The numbers of C. (ISO C, "Integer constants", without suffixes.)
 use Rattle.std.specs.Prelude.{◌≤◌, ◌==◌, ◌&&◌, ◌||◌, ℕ, if◌then◌else◌, List, slice_index, drop}
 use Rattle.std.specs.Str.Parse.{IsNumeral, digits_value}
-use Rattle.c_lex.specs.declared.limits.TheConstants.{GREATEST_NUMBER}
+use Rattle.c_lex.specs.declared.limits.TheConstants.{GREATEST_LITERAL}
 
 -- after `0x` or `0X` the digits are hexadecimal
 abbrev pub prefix_length : List ℕ → ℕ
@@ -21,4 +21,4 @@ literal_value word = digits_value (base word) (digits_of word)
 
 -- one digit or more of its base and nothing else, with a value that an int has
 abbrev pub IsLiteral : List ℕ → Type 0
-IsLiteral word = IsNumeral (base word) (digits_of word) × (literal_value word ≤ GREATEST_NUMBER)
+IsLiteral word = IsNumeral (base word) (digits_of word) × (literal_value word ≤ GREATEST_LITERAL)

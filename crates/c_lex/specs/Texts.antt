@@ -1,6 +1,6 @@
 -- Texts between marks on one line. (ISO C, "String literals".)
 use Rattle.std.specs.Prelude.{◌≡◌, ◌≢◌, ◌<◌, ◌+◌, ◌==◌, ◌||◌, ℕ, Bool, nat_le, if◌then◌else◌, List, length, slice_index}
-use Rattle.c_lex.specs.Bytes.{IsRun}
+use Rattle.c_lex.specs.Bytes.{IsStretch}
 use Rattle.c_lex.specs.declared.bytes.ByteClass.TheVariants.{Printable}
 
 -- the line ends at this place
@@ -19,17 +19,17 @@ pub data Inside (text : List ℕ) : ℕ → ℕ → Type 0 where
   goes_on : {at end : ℕ} → 0 < character_length text at → Inside text (at + character_length text at) end → Inside text at end
 
 -- a mark, characters of bytes 32 to 126 and the closing mark
-pub record IsText (text : List ℕ) (at close : ℕ) : Type 0 where
+pub record IsStringLiteral (text : List ℕ) (at close : ℕ) : Type 0 where
   pub inside : Inside text (at + 1) close
   pub closed : slice_index text close ≡ 34
-  pub printable : IsRun Printable text (at + 1) close close
+  pub printable : IsStretch Printable text (at + 1) close close
 
 -- the first other byte before the closing mark
 pub record IsBadInside (text : List ℕ) (at place : ℕ) : Type 0 where
   pub close : ℕ
   pub inside : Inside text (at + 1) close
   pub closed : slice_index text close ≡ 34
-  pub printable : IsRun Printable text (at + 1) close place
+  pub printable : IsStretch Printable text (at + 1) close place
   pub before : place < close
 
 -- the line ends before the closing mark

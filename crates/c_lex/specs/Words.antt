@@ -2,7 +2,7 @@
 use Rattle.std.specs.Prelude.{◌≡◌, ◌==◌, ◌+◌, ℕ, Bool, if◌then◌else◌, List, [], ◌∷◌, length, slice_range, codes}
 use Rattle.std.specs.List.{list_any}
 use Rattle.std.specs.Str.{bytes_eq}
-use Rattle.c_lex.specs.Bytes.{IsRun}
+use Rattle.c_lex.specs.Bytes.{IsStretch}
 use Rattle.c_lex.specs.declared.bytes.ByteClass.TheVariants.{Space, InWord}
 
 -- the words that single blanks divide
@@ -27,6 +27,6 @@ is_left_out word = list_any (bytes_eq word) left_out_words
 -- a `#`, blanks of its line and a word, as long as it can be; it may be empty
 pub record IsDirective (text : List ℕ) (at end : ℕ) (word : List ℕ) : Type 0 where
   pub from : ℕ
-  pub spaces : IsRun Space text (at + 1) (length text) from
-  pub run : IsRun InWord text from (length text) end
+  pub spaces : IsStretch Space text (at + 1) (length text) from
+  pub run : IsStretch InWord text from (length text) end
   pub is : word ≡ slice_range text from end

@@ -1,6 +1,6 @@
 //! Kinds of bytes, and runs of them.
 ghost use Rattle.std.specs.Prelude.{◌≡◌, ◌≤◌, length};
-ghost use Rattle.c_lex.specs.Bytes.{IsRun, is_letter, is_of, is_space};
+ghost use Rattle.c_lex.specs.Bytes.{IsStretch, is_letter, is_in_class, is_space};
 
 /// Bytes that go on together.
 #[derive(Clone, Copy)]
@@ -29,7 +29,7 @@ pub fn is_letter(byte: u8) -> bool
 }
 
 fn is_of(class: ByteClass, byte: u8) -> bool
-    ensures { result ≡ is_of class byte }
+    ensures { result ≡ is_in_class class byte }
 {
     match class {
         ByteClass::Space => is_space(byte),
@@ -43,7 +43,7 @@ fn is_of(class: ByteClass, byte: u8) -> bool
 pub fn run_end(class: ByteClass, text: &[u8], from: usize, limit: usize) -> usize
     requires low { from ≤ limit }
     requires high { limit ≤ length text.now }
-    ensures { IsRun class text.now from limit result }
+    ensures { IsStretch class text.now from limit result }
 {
     let mut end = from;
     while end < limit && is_of(class, text[end]) {

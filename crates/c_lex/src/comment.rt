@@ -1,33 +1,33 @@
 //! Comments.
 ghost use Rattle.std.specs.Prelude.{◌≤◌, ◌<◌, Bool, MatchOption, length};
 ghost use Rattle.c_lex.specs.Comments.{IsFirstClose, NeverCloses};
-ghost use Rattle.c_lex.specs.Steps.{EndsWithin, Stands};
+ghost use Rattle.c_lex.specs.Steps.{EndsWithin, OpeningGivesStep};
 ghost use Rattle.c_lex.specs.declared.opening.Opening.TheVariants as opens;
 ghost use Rattle.c_lex.specs.declared.limits.TheConstants.{MOST_BYTES};
 
 use crate::bytes::{ByteClass, run_end};
 use crate::fault::Why;
-use crate::step::Step;
+use crate::step::LexicalStep;
 
 /// A comment up to the line's end.
-pub fn line_comment(text: &[u8], at: usize) -> Step
+pub fn line_comment(text: &[u8], at: usize) -> LexicalStep
     requires { at < length text.now }
-    ensures stands { (on_define : Bool) → Stands text.now on_define at opens.LineComment result }
+    ensures stands { (on_define : Bool) → OpeningGivesStep text.now on_define at opens.LineComment result }
     ensures within { (on_define : Bool) → EndsWithin text.now on_define at result }
 {
-    Step::Skip {
+    LexicalStep::Skip {
         end: run_end(ByteClass::InLine, text, at + 1, text.len()),
     }
 }
 
 /// A comment between marks. On a line that is a define it has to end there.
-pub fn block_comment(text: &[u8], on_define: bool, at: usize) -> Step
+pub fn block_comment(text: &[u8], on_define: bool, at: usize) -> LexicalStep
     requires inside { at < length text.now }
     requires fits { length text.now ≤ MOST_BYTES }
-    ensures stands { Stands text.now on_define at opens.BlockComment result }
+    ensures stands { OpeningGivesStep text.now on_define at opens.BlockComment result }
     ensures within { EndsWithin text.now on_define at result }
 {
-    let open = Step::Bad {
+    let open = LexicalStep::Bad {
         place: at,
         why: Why::OpenComment,
     };
@@ -37,7 +37,7 @@ pub fn block_comment(text: &[u8], on_define: bool, at: usize) -> Step
     if on_define && run_end(ByteClass::InLine, text, at, close) < close {
         return open;
     }
-    Step::Skip { end: close + 2 }
+    LexicalStep::Skip { end: close + 2 }
 }
 
 /// The first closing mark from a place on.

@@ -11,7 +11,7 @@ pub enum Why {
     OpenComment,
     /// A text without its closing mark on its line.
     OpenText,
-    /// A number that is not one of C's, or above `GREATEST_NUMBER`.
+    /// A number that is not one of C's, or above `GREATEST_LITERAL`.
     BadLiteral,
     Unexpected,
     TooDeep,
@@ -37,9 +37,9 @@ pub struct SourceFault {
 
 impl From<AllocError> for SourceFault {
     ghost use Rattle.std.specs.Prelude.{◌≡◌};
-    ghost use Rattle.c_lex.specs.NoMemory.{no_memory};
+    ghost use Rattle.c_lex.specs.NoMemory.{no_memory_fault};
 
-    ghost from_gives = { λ _ fault. fault ≡ no_memory };
+    ghost from_gives = { λ _ fault. fault ≡ no_memory_fault };
 
     /// Being out of memory has no place: it is told at the first one.
     fn from(_error: AllocError) -> Self {
@@ -53,9 +53,9 @@ impl From<AllocError> for SourceFault {
 
 impl<T: Drop> From<AllocFailed<T>> for SourceFault {
     ghost use Rattle.std.specs.Prelude.{◌≡◌};
-    ghost use Rattle.c_lex.specs.NoMemory.{no_memory};
+    ghost use Rattle.c_lex.specs.NoMemory.{no_memory_fault};
 
-    ghost from_gives = { λ _ fault. fault ≡ no_memory };
+    ghost from_gives = { λ _ fault. fault ≡ no_memory_fault };
 
     fn from(_error: AllocFailed<T>) -> Self {
         SourceFault::from(AllocError)

@@ -2,7 +2,7 @@
 ghost use Rattle.std.specs.Prelude.{◌≡◌, ◌≤◌, ◌<◌, ◌+◌, Bool, length};
 ghost use Rattle.c_lex.specs.Marks.{mark_length};
 ghost use Rattle.c_lex.specs.Texts.{Inside, character_length};
-ghost use Rattle.c_lex.specs.Steps.{EndsWithin, Stands};
+ghost use Rattle.c_lex.specs.Steps.{EndsWithin, OpeningGivesStep};
 ghost use Rattle.c_lex.specs.declared.opening.Opening.TheVariants as opens;
 ghost use Rattle.c_lex.specs.declared.limits.TheConstants.{MOST_BYTES};
 
@@ -11,22 +11,22 @@ use crate::fault::Why;
 use crate::literal::literal_value;
 use crate::mark::mark_length;
 use crate::opening::byte_at;
-use crate::step::Step;
+use crate::step::LexicalStep;
 use crate::token::TokenKind;
 
 /// A number.
-pub fn number(text: &[u8], at: usize) -> Step
+pub fn number(text: &[u8], at: usize) -> LexicalStep
     requires { at < length text.now }
-    ensures stands { (on_define : Bool) → Stands text.now on_define at opens.Digits result }
+    ensures stands { (on_define : Bool) → OpeningGivesStep text.now on_define at opens.Digits result }
     ensures within { (on_define : Bool) → EndsWithin text.now on_define at result }
 {
     let end = run_end(ByteClass::InWord, text, at + 1, text.len());
     match literal_value(&text[at..end]) {
-        Some(_) => Step::Lexeme {
+        Some(_) => LexicalStep::Lexeme {
             kind: TokenKind::Number,
             end,
         },
-        None => Step::Bad {
+        None => LexicalStep::Bad {
             place: at,
             why: Why::BadLiteral,
         },
@@ -34,40 +34,40 @@ pub fn number(text: &[u8], at: usize) -> Step
 }
 
 /// A mark.
-pub fn mark(text: &[u8], at: usize) -> Step
+pub fn mark(text: &[u8], at: usize) -> LexicalStep
     requires inside { at < length text.now }
     requires mark { 0 < mark_length text.now at }
-    ensures stands { (on_define : Bool) → Stands text.now on_define at opens.Mark result }
+    ensures stands { (on_define : Bool) → OpeningGivesStep text.now on_define at opens.Mark result }
     ensures within { (on_define : Bool) → EndsWithin text.now on_define at result }
 {
-    Step::Lexeme {
+    LexicalStep::Lexeme {
         kind: TokenKind::Mark,
         end: at + mark_length(text, at),
     }
 }
 
 /// A text between marks.
-pub fn quote(text: &[u8], at: usize) -> Step
+pub fn quote(text: &[u8], at: usize) -> LexicalStep
     requires inside { at < length text.now }
     requires fits { length text.now ≤ MOST_BYTES }
-    ensures stands { (on_define : Bool) → Stands text.now on_define at opens.Quote result }
+    ensures stands { (on_define : Bool) → OpeningGivesStep text.now on_define at opens.Quote result }
     ensures within { (on_define : Bool) → EndsWithin text.now on_define at result }
 {
     let close = inside_end(text, at + 1);
     if byte_at(text, close) != b'"' {
-        return Step::Bad {
+        return LexicalStep::Bad {
             place: at,
             why: Why::OpenText,
         };
     }
     let place = run_end(ByteClass::Printable, text, at + 1, close);
     if place < close {
-        Step::Bad {
+        LexicalStep::Bad {
             place,
             why: Why::BadByte,
         }
     } else {
-        Step::Lexeme {
+        LexicalStep::Lexeme {
             kind: TokenKind::Text,
             end: close + 1,
         }

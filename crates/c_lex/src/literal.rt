@@ -1,14 +1,14 @@
 //! The numbers of C.
 ghost use Rattle.std.specs.Prelude.{◌≡◌, ◌≤◌, SomeIff, length};
 ghost use Rattle.std.specs.Str.Parse.{AllDigits, digits_value};
-ghost use Rattle.c_lex.specs.declared.limits.TheConstants.{GREATEST_NUMBER};
+ghost use Rattle.c_lex.specs.declared.limits.TheConstants.{GREATEST_LITERAL};
 ghost use Rattle.c_lex.specs.Literals.{IsLiteral, base, literal_value, prefix_length};
 
-use crate::limits::GREATEST_NUMBER;
+use crate::limits::GREATEST_LITERAL;
 
 /// The number that a literal spells: `0x` or `0X` and hexadecimal digits, `0` and octal digits, or
 /// decimal digits. `None` where the word is no literal, or above
-/// `GREATEST_NUMBER`. Takes no memory.
+/// `GREATEST_LITERAL`. Takes no memory.
 pub fn literal_value(word: &[u8]) -> Option<u32>
     ensures { SomeIff result (IsLiteral word.now) (literal_value word.now) }
 {
@@ -47,18 +47,18 @@ fn base(word: &[u8]) -> u32
     }
 }
 
-/// What digits make, where that is no more than `GREATEST_NUMBER`.
+/// What digits make, where that is no more than `GREATEST_LITERAL`.
 fn value_up_to(base: u32, digits: &[u8]) -> Option<u64>
     requires low { 2 ≤ base }
     requires high { base ≤ 16 }
-    ensures { SomeIff result (AllDigits base digits.now × (digits_value base digits.now ≤ GREATEST_NUMBER))
+    ensures { SomeIff result (AllDigits base digits.now × (digits_value base digits.now ≤ GREATEST_LITERAL))
         (digits_value base digits.now) }
 {
     let mut value: u64 = 0;
     for byte in digits {
         let digit = (*byte as char).to_digit(base)?;
         value = value * base as u64 + digit as u64;
-        if value > GREATEST_NUMBER {
+        if value > GREATEST_LITERAL {
             return None;
         }
     }

@@ -1,6 +1,6 @@
 //! What is at a place.
 ghost use Rattle.std.specs.Prelude.{◌≡◌, ◌≤◌, ◌<◌, ◌⊎◌, true, length};
-ghost use Rattle.c_lex.specs.Steps.{EndsWithin, IsStep, Stands};
+ghost use Rattle.c_lex.specs.Steps.{EndsWithin, IsLexicalStep, OpeningGivesStep};
 ghost use Rattle.c_lex.specs.declared.opening.Opening.TheVariants as opens;
 ghost use Rattle.c_lex.specs.declared.limits.TheConstants.{MOST_BYTES};
 
@@ -13,7 +13,7 @@ use crate::word::{directive, word};
 
 /// What is at a place of a text, and where it ends.
 #[derive(Clone, Copy)]
-pub enum Step {
+pub enum LexicalStep {
     /// No token.
     Skip { end: usize },
     Lexeme { kind: TokenKind, end: usize },
@@ -21,20 +21,20 @@ pub enum Step {
 }
 
 /// What is at this place, on a line that is a define or elsewhere.
-pub fn step_at(text: &[u8], on_define: bool, at: usize) -> Step
+pub fn step_at(text: &[u8], on_define: bool, at: usize) -> LexicalStep
     requires within { at ≤ length text.now }
     requires more { (at < length text.now) ⊎ (on_define ≡ true) }
     requires fits { length text.now ≤ MOST_BYTES }
-    ensures stands { IsStep text.now on_define at result }
+    ensures stands { IsLexicalStep text.now on_define at result }
     ensures within { EndsWithin text.now on_define at result }
 {
     match opening_at(text, at) {
-        Opening::TextEnd => Step::Lexeme {
+        Opening::TextEnd => LexicalStep::Lexeme {
             kind: TokenKind::EndLine,
             end: at,
         },
         Opening::Newline => newline(text, on_define, at),
-        Opening::Space => Step::Skip { end: at + 1 },
+        Opening::Space => LexicalStep::Skip { end: at + 1 },
         Opening::LineComment => line_comment(text, at),
         Opening::BlockComment => block_comment(text, on_define, at),
         Opening::Directive => directive(text, at),
@@ -42,7 +42,7 @@ pub fn step_at(text: &[u8], on_define: bool, at: usize) -> Step
         Opening::Digits => number(text, at),
         Opening::Quote => quote(text, at),
         Opening::Mark => mark(text, at),
-        Opening::Nothing => Step::Bad {
+        Opening::Nothing => LexicalStep::Bad {
             place: at,
             why: Why::BadByte,
         },
@@ -50,17 +50,17 @@ pub fn step_at(text: &[u8], on_define: bool, at: usize) -> Step
 }
 
 /// The end of a line, which is a token where the line is a define.
-fn newline(text: &[u8], on_define: bool, at: usize) -> Step
+fn newline(text: &[u8], on_define: bool, at: usize) -> LexicalStep
     requires inside { at < length text.now }
-    ensures stands { Stands text.now on_define at opens.Newline result }
+    ensures stands { OpeningGivesStep text.now on_define at opens.Newline result }
     ensures within { EndsWithin text.now on_define at result }
 {
     if on_define {
-        Step::Lexeme {
+        LexicalStep::Lexeme {
             kind: TokenKind::EndLine,
             end: at,
         }
     } else {
-        Step::Skip { end: at + 1 }
+        LexicalStep::Skip { end: at + 1 }
     }
 }

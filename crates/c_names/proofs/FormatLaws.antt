@@ -5,12 +5,12 @@ use Rattle.c_names.specs.declared.format.Before.{Before}
 use Rattle.c_names.specs.declared.format.Before.TheVariants.{Pieces, Escape, Percent, Filled, Wide}
 use Rattle.c_names.specs.declared.format.FormatPiece.{FormatPiece}
 use Rattle.c_names.specs.declared.format.FormatPiece.TheVariants.{Byte, Int}
-use Rattle.c_names.specs.Formats.{ints_in, ints_of}
-use Rattle.c_names.specs.FormatReading.{pieces_from, pieces_of, with_piece}
+use Rattle.c_names.specs.Formats.{ints_taken, ints_taken_by}
+use Rattle.c_names.specs.FormatReading.{pieces_from, format_pieces, with_piece}
 
 pub counted : (count : ℕ) (piece : Option FormatPiece) (behind : Option (List FormatPiece))
-    → option_map (λ n. count + n) (option_map ints_in (option_map (with_piece piece) behind))
-    ≡ option_map (λ n. (count + ints_of piece) + n) (option_map ints_in behind)
+    → option_map (λ n. count + n) (option_map ints_taken (option_map (with_piece piece) behind))
+    ≡ option_map (λ n. (count + ints_taken_by piece) + n) (option_map ints_taken behind)
 counted count piece None = refl
 counted count None (Some pieces) = ap Some (omega arith)
 counted count (Some (Byte byte)) (Some pieces) = ap Some (omega arith)
@@ -25,7 +25,7 @@ appended found (Some piece) (Some pieces) = ap Some (simp append_assoc)
 
 -- the bytes end after a whole piece
 pub finished : (bytes left : List ℕ) (found : List FormatPiece) (before : Before) → length left < 1 → before ≡ Pieces
-    → pieces_of bytes ≡ option_map (λ pieces. found ++ pieces) (pieces_from before left) → pieces_of bytes ≡ Some found
+    → format_pieces bytes ≡ option_map (λ pieces. found ++ pieces) (pieces_from before left) → format_pieces bytes ≡ Some found
 finished bytes [] found Pieces h b e = e ∙ ap Some (append-nil found)
 finished bytes [] found Escape h b e = cc
 finished bytes [] found Percent h b e = cc
@@ -35,7 +35,7 @@ finished bytes (x ∷ xs) found before h b e = absurd (omega arith)
 
 -- the bytes end within a piece
 pub cut_off : (bytes left : List ℕ) (found : List FormatPiece) (before : Before) → length left < 1 → before ≢ Pieces
-    → pieces_of bytes ≡ option_map (λ pieces. found ++ pieces) (pieces_from before left) → pieces_of bytes ≡ None
+    → format_pieces bytes ≡ option_map (λ pieces. found ++ pieces) (pieces_from before left) → format_pieces bytes ≡ None
 cut_off bytes [] found Pieces h n e = absurd (n refl)
 cut_off bytes [] found Escape h n e = e
 cut_off bytes [] found Percent h n e = e

@@ -10,8 +10,8 @@ use Rattle.c_names.specs.declared.format.Filling.{Filling}
 use Rattle.c_names.specs.declared.format.Filling.TheVariants.{Blanks, Left, Zeros}
 use Rattle.c_names.specs.declared.format.FormatPiece.{FormatPiece}
 use Rattle.c_names.specs.declared.format.FormatPiece.TheVariants.{Byte, Int}
-use Rattle.c_names.specs.declared.format.Step.{Step}
-use Rattle.c_names.specs.Formats.{IsConversion, IsFormat, IsSpelled, IsWidth, decimal, end, escape, escaped, flag, hexadecimal, int, integer, more, none, one, percent, plain, two}
+use Rattle.c_names.specs.declared.format.FormatStep.{FormatStep}
+use Rattle.c_names.specs.Formats.{IsConversion, IsFormat, IsSpelled, IsWidth, decimal, end, escape, escaped, filling_flag, hexadecimal, int, integer, more, none, one, percent, plain, two}
 use Rattle.c_names.specs.FormatReading.{begins_width, converts, goes_on, pieces_from, step_of, with_piece}
 
 cases : (b : Bool) → (b ≡ true) ⊎ (b ≡ false)
@@ -76,7 +76,7 @@ blanks_read {digits} {width} {byte} (one {tens} h k) c rest = no_flag tens h k (
 blanks_read {digits} {width} {byte} (two {tens} {ones} h k m) c rest = no_flag tens h k ((48 + ones) ∷ byte ∷ rest)
 
 int_reads : {digits : List ℕ} {width byte : ℕ} {base : Base} → (filling : Filling) → IsWidth digits width → IsConversion byte base → (rest : List ℕ)
-    → pieces_from Pieces ((37 ∷ flag filling ++ digits ++ byte ∷ []) ++ rest) ≡ option_map (with_piece (Some (Int filling width base))) (pieces_from Pieces rest)
+    → pieces_from Pieces ((37 ∷ filling_flag filling ++ digits ++ byte ∷ []) ++ rest) ≡ option_map (with_piece (Some (Int filling width base))) (pieces_from Pieces rest)
 int_reads {digits} {width} {byte} Blanks w c rest =
     let a : (digits ++ byte ∷ []) ++ rest ≡ digits ++ byte ∷ rest = append_assoc digits (byte ∷ []) rest in
     rw a (none_more (pieces_from Percent (digits ++ byte ∷ rest)) ∙ blanks_read w c rest ∙ width_reads Blanks w c rest)
@@ -107,32 +107,32 @@ pub record IsWide (filling : Filling) (width : ℕ) (read : List ℕ) : Type 0 w
   pub digits : List ℕ
   pub spelled : IsWidth digits width
   pub some : 1 ≤ width
-  pub is : read ≡ 37 ∷ flag filling ++ digits
+  pub is : read ≡ 37 ∷ filling_flag filling ++ digits
 
 -- the bytes that were read of a piece that has not ended
 abbrev IsBegun : Before → List ℕ → Type 0
 IsBegun Pieces read = read ≡ []
 IsBegun Escape read = read ≡ 92 ∷ []
 IsBegun Percent read = read ≡ 37 ∷ []
-IsBegun (Filled filling) read = read ≡ 37 ∷ flag filling
+IsBegun (Filled filling) read = read ≡ 37 ∷ filling_flag filling
 IsBegun (Wide filling width) read = IsWide filling width read
 
 abbrev Follows : List ℕ → Before → Option FormatPiece → Type 0
 Follows read before None = IsBegun before read
 Follows read before (Some piece) = (before ≡ Pieces) × IsSpelled read piece
 
-abbrev FollowsIf : List ℕ → Option Step → Type 0
+abbrev FollowsIf : List ℕ → Option FormatStep → Type 0
 FollowsIf read None = Unit {0}
 FollowsIf read (Some step) = Follows read step.before step.piece
 
 spelled_int : {digits : List ℕ} {width : ℕ} {base : Base} (filling : Filling) (byte letter : ℕ) (read : List ℕ) → IsWidth digits width
-    → read ≡ 37 ∷ flag filling ++ digits → byte ≡ letter → IsConversion letter base → IsSpelled (read ++ byte ∷ []) (Int filling width base)
+    → read ≡ 37 ∷ filling_flag filling ++ digits → byte ≡ letter → IsConversion letter base → IsSpelled (read ++ byte ∷ []) (Int filling width base)
 spelled_int {digits} {width} {base} filling byte letter read w e q k =
-    let a : read ++ byte ∷ [] ≡ 37 ∷ flag filling ++ digits ++ letter ∷ [] =
+    let a : read ++ byte ∷ [] ≡ 37 ∷ filling_flag filling ++ digits ++ letter ∷ [] =
     rw (e, q) refl in
     subst (λ xs. IsSpelled xs (Int filling width base)) (sym a) (int w k)
 
-converted : {digits : List ℕ} {width : ℕ} (filling : Filling) (byte : ℕ) (read : List ℕ) → IsWidth digits width → read ≡ 37 ∷ flag filling ++ digits
+converted : {digits : List ℕ} {width : ℕ} (filling : Filling) (byte : ℕ) (read : List ℕ) → IsWidth digits width → read ≡ 37 ∷ filling_flag filling ++ digits
     → FollowsIf (read ++ byte ∷ []) (converts filling width byte)
 converted filling byte read w e = elim (cases (byte == 100)) [
   | inl p ↦ rw p (refl, spelled_int filling byte 100 read w e (eqb-true byte 100 p) decimal)
@@ -145,7 +145,7 @@ converted filling byte read w e = elim (cases (byte == 100)) [
   ]
 ]
 
-begun_width : (filling : Filling) (byte : ℕ) (read : List ℕ) → read ≡ 37 ∷ flag filling → FollowsIf (read ++ byte ∷ []) (begins_width filling byte)
+begun_width : (filling : Filling) (byte : ℕ) (read : List ℕ) → read ≡ 37 ∷ filling_flag filling → FollowsIf (read ++ byte ∷ []) (begins_width filling byte)
 begun_width filling byte read e = elim (cases (nat_le 49 byte && nat_le byte 57)) [
   | inl t ↦
       let h : 1 ≤ byte - 48 = grind (arith, nat_tests) in
@@ -155,9 +155,9 @@ begun_width filling byte read e = elim (cases (nat_le 49 byte && nat_le byte 57)
         digits = (48 + (byte - 48)) ∷ [];
         spelled = one h k;
         some = h;
-        is = ap (λ xs. xs ++ byte ∷ []) e ∙ ap (λ b. 37 ∷ flag filling ++ b ∷ []) d;
+        is = ap (λ xs. xs ++ byte ∷ []) e ∙ ap (λ b. 37 ∷ filling_flag filling ++ b ∷ []) d;
       })
-  | inr t ↦ rw t (converted filling byte read none (e ∙ ap (λ xs. 37 ∷ xs) (sym (append-nil (flag filling)))))
+  | inr t ↦ rw t (converted filling byte read none (e ∙ ap (λ xs. 37 ∷ xs) (sym (append-nil (filling_flag filling)))))
 ]
 
 one_digit : {digits : List ℕ} {width : ℕ} → IsWidth digits width → 1 ≤ width → width < 10 → digits ≡ (48 + width) ∷ []
@@ -197,14 +197,14 @@ one_byte (Wide filling width) read byte b = elim (cases (nat_lt width 10 && (nat
       let k : width ≤ 9 = omega arith in
       let d : byte ≡ 48 + (byte - 48) = grind (arith, nat_tests) in
       let s : b.digits ≡ (48 + width) ∷ [] = one_digit b.spelled h l in
-      let e : read ≡ 37 ∷ flag filling ++ (48 + width) ∷ [] = b.is ∙ ap (λ xs. 37 ∷ flag filling ++ xs) s in
+      let e : read ≡ 37 ∷ filling_flag filling ++ (48 + width) ∷ [] = b.is ∙ ap (λ xs. 37 ∷ filling_flag filling ++ xs) s in
       let one_more : 1 ≤ width * 10 + (byte - 48) = omega arith in
       rw t (record {
         digits = (48 + width) ∷ (48 + (byte - 48)) ∷ [];
         spelled = two h k m;
         some = one_more;
-        is = ap (λ xs. xs ++ byte ∷ []) e ∙ ap (λ xs. 37 ∷ xs) (append_assoc (flag filling) ((48 + width) ∷ []) (byte ∷ []))
-            ∙ ap (λ b. 37 ∷ flag filling ++ (48 + width) ∷ b ∷ []) d;
+        is = ap (λ xs. xs ++ byte ∷ []) e ∙ ap (λ xs. 37 ∷ xs) (append_assoc (filling_flag filling) ((48 + width) ∷ []) (byte ∷ []))
+            ∙ ap (λ b. 37 ∷ filling_flag filling ++ (48 + width) ∷ b ∷ []) d;
       })
   | inr t ↦ rw t (converted filling byte read b.spelled b.is)
 ]
@@ -227,7 +227,7 @@ piece_or_none bytes read before (Some piece) pieces on f e =
     piece_found bytes read piece pieces (pieces_from Pieces bytes) on f.1 refl
     (subst (λ b. option_map (with_piece (Some piece)) (pieces_from b bytes) ≡ Some pieces) f.0 e)
 
-step_spells : (bytes read : List ℕ) (step : Option Step) (pieces : List FormatPiece) → IsReadOn bytes → FollowsIf read step
+step_spells : (bytes read : List ℕ) (step : Option FormatStep) (pieces : List FormatPiece) → IsReadOn bytes → FollowsIf read step
     → goes_on step (λ before. pieces_from before bytes) ≡ Some pieces → IsFormat (read ++ bytes) pieces
 step_spells bytes read None pieces on f e = absurd (cc)
 step_spells bytes read (Some step) pieces on f e = piece_or_none bytes read step.before step.piece pieces on f e

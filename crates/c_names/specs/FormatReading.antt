@@ -1,4 +1,4 @@
--- The pieces of a format, byte by byte: `pieces_of` finds those that its bytes spell.
+-- The pieces of a format, byte by byte: `format_pieces` finds those that its bytes spell.
 use Rattle.std.specs.Prelude.{◌+◌, ◌-◌, ◌*◌, ◌==◌, ◌&&◌, ◌||◌, ℕ, nat_le, nat_lt, if◌then◌else◌, List, [], ◌∷◌, Option, Some, None, option_map}
 use Rattle.c_names.specs.Formats.{escaped}
 use Rattle.c_names.specs.declared.format.Base.TheVariants.{Decimal, Hexadecimal}
@@ -8,27 +8,27 @@ use Rattle.c_names.specs.declared.format.Filling.{Filling}
 use Rattle.c_names.specs.declared.format.Filling.TheVariants.{Blanks, Left, Zeros}
 use Rattle.c_names.specs.declared.format.FormatPiece.{FormatPiece}
 use Rattle.c_names.specs.declared.format.FormatPiece.TheVariants.{Byte, Int}
-use Rattle.c_names.specs.declared.format.Step.{Step}
+use Rattle.c_names.specs.declared.format.FormatStep.{FormatStep}
 
 -- no piece ends at this byte, or one does
-abbrev pub on : Before → Option Step
+abbrev pub on : Before → Option FormatStep
 on before = Some (record { before = before; piece = None })
 
-abbrev pub end : FormatPiece → Option Step
+abbrev pub end : FormatPiece → Option FormatStep
 end piece = Some (record { before = Pieces; piece = Some piece })
 
-abbrev pub converts : Filling → ℕ → ℕ → Option Step
+abbrev pub converts : Filling → ℕ → ℕ → Option FormatStep
 converts filling width byte =
     if (byte == 100) || (byte == 105) then end (Int filling width Decimal)
     else (if byte == 120 then end (Int filling width Hexadecimal)
     else None)
 
 -- the first digit of a width is not 0
-abbrev pub begins_width : Filling → ℕ → Option Step
+abbrev pub begins_width : Filling → ℕ → Option FormatStep
 begins_width filling byte =
     if nat_le 49 byte && nat_le byte 57 then on (Wide filling (byte - 48)) else converts filling 0 byte
 
-abbrev pub step_of : Before → ℕ → Option Step
+abbrev pub step_of : Before → ℕ → Option FormatStep
 step_of Pieces byte = if byte == 92 then on Escape else (if byte == 37 then on Percent else end (Byte byte))
 step_of Escape byte = option_map (λ byte. record { before = Pieces; piece = Some (Byte byte) }) (escaped byte)
 step_of Percent byte =
@@ -47,7 +47,7 @@ with_piece None pieces = pieces
 with_piece (Some piece) pieces = piece ∷ pieces
 
 -- what a byte adds to the pieces after it
-abbrev pub goes_on : Option Step → (Before → Option (List FormatPiece)) → Option (List FormatPiece)
+abbrev pub goes_on : Option FormatStep → (Before → Option (List FormatPiece)) → Option (List FormatPiece)
 goes_on None behind = None
 goes_on (Some step) behind = option_map (with_piece step.piece) (behind step.before)
 
@@ -57,5 +57,5 @@ pieces_from Pieces [] = Some []
 pieces_from before [] = None
 pieces_from before (byte ∷ bytes) = goes_on (step_of before byte) (λ before. pieces_from before bytes)
 
-abbrev pub pieces_of : List ℕ → Option (List FormatPiece)
-pieces_of bytes = pieces_from Pieces bytes
+abbrev pub format_pieces : List ℕ → Option (List FormatPiece)
+format_pieces bytes = pieces_from Pieces bytes

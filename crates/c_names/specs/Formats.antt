@@ -18,10 +18,10 @@ escaped byte =
     else None)))
 
 -- `-` fills with blanks on the right, `0` with zeros
-abbrev pub flag : Filling → List ℕ
-flag Blanks = []
-flag Left = 45 ∷ []
-flag Zeros = 48 ∷ []
+abbrev pub filling_flag : Filling → List ℕ
+filling_flag Blanks = []
+filling_flag Left = 45 ∷ []
+filling_flag Zeros = 48 ∷ []
 
 -- a width is one or two digits, of which the first is not 0; without one it is 0
 pub data IsWidth : List ℕ → ℕ → Type 0 where
@@ -41,7 +41,7 @@ pub data IsSpelled : List ℕ → FormatPiece → Type 0 where
   escape : {byte meant : ℕ} → escaped byte ≡ Some meant → IsSpelled (92 ∷ byte ∷ []) (Byte meant)
   percent : IsSpelled (37 ∷ 37 ∷ []) (Byte 37)
   int : {filling : Filling} {digits : List ℕ} {width byte : ℕ} {base : Base} → IsWidth digits width → IsConversion byte base
-      → IsSpelled (37 ∷ flag filling ++ digits ++ byte ∷ []) (Int filling width base)
+      → IsSpelled (37 ∷ filling_flag filling ++ digits ++ byte ∷ []) (Int filling width base)
 
 -- the bytes are the spellings of the pieces, one after the other
 pub data IsFormat : List ℕ → List FormatPiece → Type 0 where
@@ -50,10 +50,10 @@ pub data IsFormat : List ℕ → List FormatPiece → Type 0 where
       → IsFormat (spelling ++ bytes) (piece ∷ pieces)
 
 -- how many ints it takes
-abbrev pub ints_of : Option FormatPiece → ℕ
-ints_of (Some (Int filling width base)) = 1
-ints_of _ = 0
+abbrev pub ints_taken_by : Option FormatPiece → ℕ
+ints_taken_by (Some (Int filling width base)) = 1
+ints_taken_by _ = 0
 
-abbrev pub ints_in : List FormatPiece → ℕ
-ints_in [] = 0
-ints_in (piece ∷ pieces) = ints_of (Some piece) + ints_in pieces
+abbrev pub ints_taken : List FormatPiece → ℕ
+ints_taken [] = 0
+ints_taken (piece ∷ pieces) = ints_taken_by (Some piece) + ints_taken pieces

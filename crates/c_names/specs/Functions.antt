@@ -45,12 +45,12 @@ arguments f.CommDup = Communicator ∷ NewCommunicator ∷ []
 arguments f.Abort = Communicator ∷ Number ∷ []
 
 -- the predefined names that may stand for an argument
-abbrev pub accepts : ArgumentKind → Predefined → Bool
-accepts Buffer p.NoReference = true
-accepts NoReference p.NoReference = true
-accepts Datatype p.Datatype = true
-accepts Operation (p.Operation op) = true
-accepts Status p.IgnoredStatus = true
-accepts Statuses p.IgnoredStatuses = true
-accepts Output p.Output = true
-accepts _ _ = false
+abbrev pub takes_predefined : ArgumentKind → Predefined → Bool
+takes_predefined Buffer p.NoReference = true
+takes_predefined NoReference p.NoReference = true
+takes_predefined Datatype p.Datatype = true
+takes_predefined Operation (p.Operation op) = true
+takes_predefined Status p.IgnoredStatus = true
+takes_predefined Statuses p.IgnoredStatuses = true
+takes_predefined Output p.Output = true
+takes_predefined _ _ = false

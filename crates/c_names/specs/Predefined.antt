@@ -74,9 +74,9 @@ names =
     ∷ []
 
 -- what the row with this name has
-abbrev pub found_in : List (List ℕ × Predefined) → List ℕ → Option Predefined
-found_in [] name = None
-found_in (row ∷ rows) name = if bytes_eq row.0 name then Some row.1 else found_in rows name
+abbrev pub predefined_in : List (List ℕ × Predefined) → List ℕ → Option Predefined
+predefined_in [] name = None
+predefined_in (row ∷ rows) name = if bytes_eq row.0 name then Some row.1 else predefined_in rows name
 
 abbrev pub predefined : List ℕ → Option Predefined
-predefined name = found_in names name
+predefined name = predefined_in names name

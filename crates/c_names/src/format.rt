@@ -1,7 +1,7 @@
 //! Formats of `printf`.
 ghost use Rattle.std.specs.Prelude.{◌≡◌, ◌++◌, IfOk, List, MatchOption, OnOk, Some, ℕ, option_map, option_to_list};
-ghost use Rattle.c_names.specs.FormatReading.{begins_width, converts, end, on, pieces_of, step_of};
-ghost use Rattle.c_names.specs.Formats.{IsFormat, escaped, ints_in, ints_of};
+ghost use Rattle.c_names.specs.FormatReading.{begins_width, converts, end, on, format_pieces, step_of};
+ghost use Rattle.c_names.specs.Formats.{IsFormat, escaped, ints_taken, ints_taken_by};
 ghost use Rattle.c_names.specs.declared.format.FormatPiece.{FormatPiece};
 
 use std::alloc::{AllocError, Global};
@@ -51,25 +51,25 @@ pub enum Before {
 
 /// What one byte adds.
 #[derive(Clone, Copy)]
-pub struct Step {
+pub struct FormatStep {
     pub before: Before,
     pub piece: Option<FormatPiece>,
 }
 
 /// No piece ends at this byte.
-fn on(before: Before) -> Option<Step>
+fn on(before: Before) -> Option<FormatStep>
     ensures { result ≡ on before }
 {
-    Some(Step {
+    Some(FormatStep {
         before,
         piece: None,
     })
 }
 
-fn end(piece: FormatPiece) -> Option<Step>
+fn end(piece: FormatPiece) -> Option<FormatStep>
     ensures { result ≡ end piece }
 {
-    Some(Step {
+    Some(FormatStep {
         before: Before::Pieces,
         piece: Some(piece),
     })
@@ -87,7 +87,7 @@ fn escaped(byte: u8) -> Option<u8>
     }
 }
 
-fn converts(filling: Filling, width: u8, byte: u8) -> Option<Step>
+fn converts(filling: Filling, width: u8, byte: u8) -> Option<FormatStep>
     ensures { result ≡ converts filling width byte }
 {
     match byte {
@@ -105,7 +105,7 @@ fn converts(filling: Filling, width: u8, byte: u8) -> Option<Step>
     }
 }
 
-fn begins_width(filling: Filling, byte: u8) -> Option<Step>
+fn begins_width(filling: Filling, byte: u8) -> Option<FormatStep>
     ensures { result ≡ begins_width filling byte }
 {
     if byte >= b'1' && byte <= b'9' {
@@ -116,7 +116,7 @@ fn begins_width(filling: Filling, byte: u8) -> Option<Step>
 }
 
 /// One byte more. `None` where no format goes on so.
-fn next_step(before: Before, byte: u8) -> Option<Step>
+fn next_step(before: Before, byte: u8) -> Option<FormatStep>
     ensures { result ≡ step_of before byte }
 {
     match before {
@@ -144,7 +144,7 @@ fn next_step(before: Before, byte: u8) -> Option<Step>
 }
 
 fn ints(piece: Option<FormatPiece>) -> usize
-    ensures { result ≡ ints_of piece }
+    ensures { result ≡ ints_taken_by piece }
 {
     match piece {
         Some(FormatPiece::Int { .. }) => 1,
@@ -155,7 +155,7 @@ fn ints(piece: Option<FormatPiece>) -> usize
 /// How many ints a format takes, or `None` if the bytes are no format. Takes no memory.
 #[tactic(auto, using(crate::proofs::FormatLaws::counted))]
 pub fn count_ints(format: &[u8]) -> Option<usize>
-    ensures { result ≡ option_map ints_in (pieces_of format.now) }
+    ensures { result ≡ option_map ints_taken (format_pieces format.now) }
 {
     let mut count = 0;
     let mut before = Before::Pieces;
@@ -184,7 +184,7 @@ fn push(found: &mut Vec<FormatPiece>, piece: Option<FormatPiece>) -> Result<(), 
 /// The pieces of a format, or `None` if the bytes are no format.
 #[tactic(auto, using(crate::proofs::FormatLaws::appended, crate::proofs::Spelling::format_reads, crate::proofs::Spelling::read_spells))]
 pub fn pieces(alloc: Global, format: &[u8]) -> Result<Option<Vec<FormatPiece>>, AllocError>
-    ensures read { IfOk result (λ found. option_map (λ pieces. pieces.items) found ≡ pieces_of format.now) }
+    ensures read { IfOk result (λ found. option_map (λ pieces. pieces.items) found ≡ format_pieces format.now) }
     ensures spelled { IfOk result (λ found. MatchOption found ((pieces : List FormatPiece) → IsFormat format.now pieces → ⊥)
         (λ pieces. IsFormat format.now pieces.items)) }
 {
@@ -207,6 +207,6 @@ pub fn pieces(alloc: Global, format: &[u8]) -> Result<Option<Vec<FormatPiece>>, 
 
 /// The pieces that are read off a format are those that its bytes spell, so that there is one list of them.
 pub fn one_spelling()
-    ensures read { (bytes : List ℕ) (pieces : List FormatPiece) → IsFormat bytes pieces → pieces_of bytes ≡ Some pieces }
-    ensures spelled { (bytes : List ℕ) (pieces : List FormatPiece) → pieces_of bytes ≡ Some pieces → IsFormat bytes pieces }
+    ensures read { (bytes : List ℕ) (pieces : List FormatPiece) → IsFormat bytes pieces → format_pieces bytes ≡ Some pieces }
+    ensures spelled { (bytes : List ℕ) (pieces : List FormatPiece) → format_pieces bytes ≡ Some pieces → IsFormat bytes pieces }
 {}

@@ -1,6 +1,6 @@
 //! The MPI functions and what each takes.
 ghost use Rattle.std.specs.Prelude.{◌≡◌};
-ghost use Rattle.c_names.specs.Functions.{accepts, arguments};
+ghost use Rattle.c_names.specs.Functions.{takes_predefined, arguments};
 
 use crate::predefined::Predefined;
 
@@ -203,7 +203,7 @@ pub fn arguments(function: MpiFunction) -> &'static [ArgumentKind]
 
 /// Whether a predefined name may stand for an argument.
 pub fn accepts(kind: ArgumentKind, known: Predefined) -> bool
-    ensures { result ≡ accepts kind known }
+    ensures { result ≡ takes_predefined kind known }
 {
     match (kind, known) {
         (ArgumentKind::Buffer | ArgumentKind::NoReference, Predefined::NoReference) => true,

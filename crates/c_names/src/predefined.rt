@@ -1,6 +1,6 @@
 //! Names that stand without a declaration.
 ghost use Rattle.std.specs.Prelude.{◌≡◌, List, ℕ, map};
-ghost use Rattle.c_names.specs.Predefined.{found_in, predefined};
+ghost use Rattle.c_names.specs.Predefined.{predefined_in, predefined};
 
 use crate::function::MpiFunction;
 use mpi_call::call::Op;
@@ -102,7 +102,7 @@ pub fn meaning_of(name: &[u8]) -> Option<Predefined>
 
 /// What the first row with this name has.
 fn find(rows: &[(&'static str, Predefined)], name: &[u8]) -> Option<Predefined>
-    ensures { result ≡ found_in (map (λ row. (row.0.now, row.1)) rows.now) name.now }
+    ensures { result ≡ predefined_in (map (λ row. (row.0.now, row.1)) rows.now) name.now }
 {
     let mut left = rows;
     while let [row, after @ ..] = left {

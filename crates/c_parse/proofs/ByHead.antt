@@ -8,9 +8,9 @@ use Rattle.c_grammar.specs.Tree as t
 use Rattle.c_grammar.specs.Symbols.{isnt}
 use Rattle.c_grammar.specs.Reading.{Answer, ◌>>=◌, expect, expr_at, many, maybe}
 use Rattle.c_grammar.specs.StmtView.{parts_from}
-use Rattle.c_grammar.specs.StmtReading.{block_of, body_of, do_of, else_of, for_of, if_of, simple_of, start_of, stmt_at, while_of}
-use Rattle.c_parse.specs.Blocks.{BlockTree, braces_of}
-use Rattle.c_parse.specs.StatementHeads.{ForTree, TestTree, test_head_of, ended_of, for_head_of}
+use Rattle.c_grammar.specs.StmtReading.{if_head, read_block, read_body, read_do, read_else, read_for, read_if, read_simple, read_for_start, stmt_at, read_while_loop}
+use Rattle.c_parse.specs.inside.Blocks.{BlockTree, braces_of}
+use Rattle.c_parse.specs.inside.StatementHeads.{ForTree, TestTree, test_head_of, ended_of, for_head_of}
 
 -- what goes on alike
 alike : {A B : Type 0} (a : Answer A) {f g : A × List Terminal → Answer B} → ((x : A × List Terminal) → f x ≡ g x) → (a >>= f) ≡ (a >>= g)
@@ -42,17 +42,17 @@ ended_then : {A B : Type 0} (one : List Terminal → Answer A) (last : Symbol) (
 unfolding ended_of
 ended_then one last ts next = alike (one ts) (λ thing. regroup (expect last thing.1) _ next) ∙ regroup (one ts) _ next
 
-pub if_by_head : (n : ℕ) (ts : List Terminal) → if_of (expr_at n true) (stmt_at (n - 1)) ts
+pub if_by_head : (n : ℕ) (ts : List Terminal) → read_if (expr_at n true) (stmt_at (n - 1)) ts
     ≡ (test_head_of (expr_at n true) w.If ts >>= λ head. stmt_at (n - 1) head.1 >>= λ then.
-    else_of (stmt_at (n - 1)) head.0.keyword head.0.opening head.0.test head.0.closing then.0 then.1)
+    read_else (stmt_at (n - 1)) (if_head head.0.keyword head.0.opening head.0.test head.0.closing) then.0 then.1)
 if_by_head n ts = test_head_then (expr_at n true) w.If ts _
 
-pub while_by_head : (n : ℕ) (ts : List Terminal) → while_of (expr_at n true) (stmt_at (n - 1)) ts
+pub while_by_head : (n : ℕ) (ts : List Terminal) → read_while_loop (expr_at n true) (stmt_at (n - 1)) ts
     ≡ (test_head_of (expr_at n true) w.While ts >>= λ head. stmt_at (n - 1) head.1 >>= λ body.
     Ok (t.while head.0.keyword head.0.opening head.0.test head.0.closing body.0, body.1))
 while_by_head n ts = test_head_then (expr_at n true) w.While ts _
 
-pub do_by_head : (n : ℕ) (ts : List Terminal) → do_of (expr_at n true) (stmt_at (n - 1)) ts
+pub do_by_head : (n : ℕ) (ts : List Terminal) → read_do (expr_at n true) (stmt_at (n - 1)) ts
     ≡ (expect w.Do ts >>= λ keyword. stmt_at (n - 1) keyword.1 >>= λ body. ended_of (test_head_of (expr_at n true) w.While) w.Semicolon body.1 >>= λ tail.
     Ok (t.do_while keyword.0 body.0 tail.0.0.keyword tail.0.0.opening tail.0.0.test tail.0.0.closing tail.0.1, tail.1))
 do_by_head n ts =
@@ -63,35 +63,35 @@ do_by_head n ts =
 
 -- what is read after the head of a `for`
 for_head_then : (expr index : List Terminal → Answer t.Expr) (ts : List Terminal) (next : ForTree × List Terminal → Answer t.Stmt)
-    → (expect w.For ts >>= λ keyword. expect w.OpenParen keyword.1 >>= λ opening. ended_of (start_of expr index) w.Semicolon opening.1 >>= λ start.
+    → (expect w.For ts >>= λ keyword. expect w.OpenParen keyword.1 >>= λ opening. ended_of (read_for_start expr index) w.Semicolon opening.1 >>= λ start.
     ended_of (maybe (isnt w.Semicolon) expr) w.Semicolon start.1 >>= λ test.
-    ended_of (maybe (isnt w.CloseParen) (simple_of expr index)) w.CloseParen test.1 >>= λ step.
+    ended_of (maybe (isnt w.CloseParen) (read_simple expr index)) w.CloseParen test.1 >>= λ step.
     next (record { keyword = keyword.0; opening = opening.0; start = start.0; test = test.0; step = step.0 }, step.1))
     ≡ (for_head_of expr index ts >>= next)
 unfolding for_head_of
 for_head_then expr index ts next =
     alike (expect w.For ts) (λ keyword.
     alike (expect w.OpenParen keyword.1) (λ opening.
-    alike (ended_of (start_of expr index) w.Semicolon opening.1) (λ start.
+    alike (ended_of (read_for_start expr index) w.Semicolon opening.1) (λ start.
     alike (ended_of (maybe (isnt w.Semicolon) expr) w.Semicolon start.1) (λ test.
-    regroup (ended_of (maybe (isnt w.CloseParen) (simple_of expr index)) w.CloseParen test.1) _ next)
+    regroup (ended_of (maybe (isnt w.CloseParen) (read_simple expr index)) w.CloseParen test.1) _ next)
     ∙ regroup (ended_of (maybe (isnt w.Semicolon) expr) w.Semicolon start.1) _ next)
-    ∙ regroup (ended_of (start_of expr index) w.Semicolon opening.1) _ next)
+    ∙ regroup (ended_of (read_for_start expr index) w.Semicolon opening.1) _ next)
     ∙ regroup (expect w.OpenParen keyword.1) _ next)
     ∙ regroup (expect w.For ts) _ next
 
-pub for_by_head : (n : ℕ) (ts : List Terminal) → for_of (expr_at n true) (expr_at (n - 1) true) (stmt_at (n - 1)) ts
+pub for_by_head : (n : ℕ) (ts : List Terminal) → read_for (expr_at n true) (expr_at (n - 1) true) (stmt_at (n - 1)) ts
     ≡ (for_head_of (expr_at n true) (expr_at (n - 1) true) ts >>= λ head. stmt_at (n - 1) head.1 >>= λ body.
     Ok (t.for head.0.keyword head.0.opening head.0.start.0 head.0.start.1 head.0.test.0 head.0.test.1 head.0.step.0 head.0.step.1 body.0, body.1))
 for_by_head n ts =
     let expr = expr_at n true in
     let index = expr_at (n - 1) true in
     alike (expect w.For ts) (λ keyword. alike (expect w.OpenParen keyword.1) (λ opening.
-    ended_then (start_of expr index) w.Semicolon opening.1 _
-    ∙ alike (ended_of (start_of expr index) w.Semicolon opening.1) (λ start.
+    ended_then (read_for_start expr index) w.Semicolon opening.1 _
+    ∙ alike (ended_of (read_for_start expr index) w.Semicolon opening.1) (λ start.
     ended_then (maybe (isnt w.Semicolon) expr) w.Semicolon start.1 _
     ∙ alike (ended_of (maybe (isnt w.Semicolon) expr) w.Semicolon start.1) (λ test.
-    ended_then (maybe (isnt w.CloseParen) (simple_of expr index)) w.CloseParen test.1 _))))
+    ended_then (maybe (isnt w.CloseParen) (read_simple expr index)) w.CloseParen test.1 _))))
     ∙ for_head_then expr index ts _
 
 -- what is read after a block's braces
@@ -106,10 +106,10 @@ braces_then part ts next =
     ∙ regroup (many (isnt w.CloseBrace) part opening.1) _ next)
     ∙ regroup (expect w.OpenBrace ts) _ next
 
-pub block_by_braces : (part : List Terminal → Answer t.Part) (ts : List Terminal) → block_of part ts
+pub block_by_braces : (part : List Terminal → Answer t.Part) (ts : List Terminal) → read_block part ts
     ≡ (braces_of part ts >>= λ block. Ok (t.block block.0.opening (parts_from block.0.parts) block.0.closing, block.1))
 block_by_braces part ts = braces_then part ts _
 
-pub body_by_braces : (part : List Terminal → Answer t.Part) (head : t.Head) (ts : List Terminal) → body_of part head true ts
+pub body_by_braces : (part : List Terminal → Answer t.Part) (head : t.Head) (ts : List Terminal) → read_body part head true ts
     ≡ (braces_of part ts >>= λ block. Ok (t.function head block.0.opening (parts_from block.0.parts) block.0.closing, block.1))
 body_by_braces part head ts = braces_then part ts _

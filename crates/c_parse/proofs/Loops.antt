@@ -2,10 +2,10 @@
 use Rattle.std.proofs.Common.{◌≡◌, ◌<◌, ◌≤◌, Bool, true, false, ℕ, zero, suc, List, [], ◌∷◌, ◌++◌, length, map, Ok, Err, refl, sym, ap, ◌∙◌, append_assoc, arith}
 use Rattle.c_grammar.specs.declared.terminal.Terminal.{Terminal}
 use Rattle.c_grammar.specs.declared.terminal.Symbol.{Symbol}
-use Rattle.c_grammar.specs.Reading.{◌>>=◌, Answer, Fault, heads, many, turns}
-use Rattle.c_parse.specs.declared.read.ReadError.{ReadError}
-use Rattle.c_parse.specs.declared.read.ReadError.TheVariants as errors
-use Rattle.c_parse.specs.Gives.{Fails}
+use Rattle.c_grammar.specs.Reading.{◌>>=◌, Answer, Fault, heads, many, read_while}
+use Rattle.c_parse.specs.declared.read.ParseError.{ParseError}
+use Rattle.c_parse.specs.declared.read.ParseError.TheVariants as errors
+use Rattle.c_parse.specs.inside.Gives.{FailsToRead}
 
 -- these before all that is read
 abbrev pub after : {A : Type 0} → List A → Answer (List A) → Answer (List A)
@@ -28,20 +28,20 @@ module _ {A : Type 0} (goes : Symbol → Bool) (one : List Terminal → Answer A
   pub record SoFar (found : List A) (rest : List Terminal) : Type 0 where
     pub fuel : ℕ
     pub enough : length rest ≤ fuel
-    pub same : many goes one terminals ≡ after found (turns goes one fuel rest)
+    pub same : many goes one terminals ≡ after found (read_while goes one fuel rest)
 
   pub so_far-step : (found : List A) (rest behind : List Terminal) (a : A)
       → heads goes rest ≡ true → one rest ≡ Ok (a, behind) → length behind < length rest → SoFar found rest → SoFar (found ++ a ∷ []) behind
   so_far-step found rest behind a on read short so = go so.fuel so.enough so.same
     where
-      go : (n : ℕ) → length rest ≤ n → many goes one terminals ≡ after found (turns goes one n rest) → SoFar (found ++ a ∷ []) behind
+      go : (n : ℕ) → length rest ≤ n → many goes one terminals ≡ after found (read_while goes one n rest) → SoFar (found ++ a ∷ []) behind
       go zero low same = absurd (omega arith)
-      go (suc n) low same = record { fuel = n; enough = omega arith; same = same ∙ rw (on, read) (after_more found a (turns goes one n behind)) }
+      go (suc n) low same = record { fuel = n; enough = omega arith; same = same ∙ rw (on, read) (after_more found a (read_while goes one n behind)) }
 
   pub so_far-fails : (found : List A) (rest : List Terminal) (f : Fault) → heads goes rest ≡ true → one rest ≡ Err f → SoFar found rest → many goes one terminals ≡ Err f
   so_far-fails found rest f on read so = go so.fuel rest refl so.enough so.same
     where
-      go : (n : ℕ) (ts : List Terminal) → rest ≡ ts → length ts ≤ n → many goes one terminals ≡ after found (turns goes one n rest) → many goes one terminals ≡ Err f
+      go : (n : ℕ) (ts : List Terminal) → rest ≡ ts → length ts ≤ n → many goes one terminals ≡ after found (read_while goes one n rest) → many goes one terminals ≡ Err f
       go zero [] is low same = absurd (let k : heads goes rest ≡ false = ap (heads goes) is in cc)
       go zero (t ∷ ts) is low same = absurd (omega arith)
       go (suc n) ts is low same = same ∙ rw (on, read) refl
@@ -49,11 +49,11 @@ module _ {A : Type 0} (goes : Symbol → Bool) (one : List Terminal → Answer A
   pub so_far-ends : (found : List A) (rest : List Terminal) → heads goes rest ≡ false → SoFar found rest → many goes one terminals ≡ Ok (found, rest)
   so_far-ends found rest off so = go so.fuel so.same
     where
-      go : (n : ℕ) → many goes one terminals ≡ after found (turns goes one n rest) → many goes one terminals ≡ Ok (found, rest)
+      go : (n : ℕ) → many goes one terminals ≡ after found (read_while goes one n rest) → many goes one terminals ≡ Ok (found, rest)
       go zero same = same ∙ ap (λ z. Ok (z, rest)) (append_none found)
       go (suc n) same = same ∙ rw off (ap (λ z. Ok (z, rest)) (append_none found))
 
-  pub so_far-fault : (found : List A) (rest : List Terminal) (error : ReadError) → heads goes rest ≡ true → Fails error (one rest) → SoFar found rest → Fails error (many goes one terminals)
+  pub so_far-fault : (found : List A) (rest : List Terminal) (error : ParseError) → heads goes rest ≡ true → FailsToRead error (one rest) → SoFar found rest → FailsToRead error (many goes one terminals)
   so_far-fault found rest errors.Memory on read so = tt
   so_far-fault found rest (errors.At why at) on read so = so_far-fails found rest _ on read so
 

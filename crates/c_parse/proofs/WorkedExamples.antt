@@ -5,13 +5,13 @@ use Rattle.std.specs.List.{list_any}
 use Rattle.c_lex.specs.Marks.{marks}
 use Rattle.c_lex.specs.declared.token.TokenKind.TheVariants as kinds
 use Rattle.c_lex.specs.declared.token.Token.{Token}
-use Rattle.c_grammar.specs.Symbols.{code_of}
+use Rattle.c_grammar.specs.Symbols.{symbol_code}
 use Rattle.c_grammar.specs.declared.terminal.Symbol.TheVariants as w
 use Rattle.c_parse.specs.Terminals.{spellings, symbol_among, symbol_of}
-use Rattle.c_parse.specs.Parsing.{place_of, terminals_of}
+use Rattle.c_parse.specs.Parsing.{place_of_first, terminals_of}
 
 -- each mark of the tokens has a symbol, and none is a name
-marks_are_no_names : list_any (λ mark. code_of (symbol_among spellings mark) == code_of w.Name) marks ≡ false
+marks_are_no_names : list_any (λ mark. symbol_code (symbol_among spellings mark) == symbol_code w.Name) marks ≡ false
 unfolding spellings marks
 marks_are_no_names = refl
 
@@ -33,5 +33,5 @@ terminals : terminals_of (codes "x += 1") tokens
 unfolding spellings tokens
 terminals = refl
 
-end_place : place_of (codes "x += 1") [] ≡ 6
+end_place : place_of_first (codes "x += 1") [] ≡ 6
 end_place = refl

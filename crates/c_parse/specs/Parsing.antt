@@ -13,15 +13,15 @@ abbrev pub terminals_of : List ℕ → List Token → List Terminal
 terminals_of text tokens = map (terminal_of text) tokens
 
 -- the tokens are this tree's, and nothing in it is too deep
-abbrev pub IsTree : List ℕ → List Token → Tree → Type 0
-IsTree text tokens tree = programs.IsTree (terminals_of text tokens) tree
+abbrev pub IsTreeOfTokens : List ℕ → List Token → Tree → Type 0
+IsTreeOfTokens text tokens tree = programs.IsTree (terminals_of text tokens) tree
 
 -- where the first of these terminals is; after the last one, the end of the text
-abbrev pub place_of : List ℕ → List Terminal → ℕ
-place_of text [] = length text
-place_of text (terminal ∷ terminals) = terminal.span.start
+abbrev pub place_of_first : List ℕ → List Terminal → ℕ
+place_of_first text [] = length text
+place_of_first text (terminal ∷ terminals) = terminal.span.start
 
 -- this is the first fault, by the grammar alone, with its line and column
-abbrev pub IsFirstFault : List ℕ → List Token → SourceFault → Type 0
-IsFirstFault text tokens first =
-    (rest : List Terminal) × programs.IsFault (terminals_of text tokens) first.why rest × IsPlaceOf text (place_of text rest) first.line first.column
+abbrev pub IsFirstSyntaxFault : List ℕ → List Token → SourceFault → Type 0
+IsFirstSyntaxFault text tokens first =
+    (rest : List Terminal) × programs.IsSyntaxFault (terminals_of text tokens) first.why rest × IsPlaceOf text (place_of_first text rest) first.line first.column

@@ -5,14 +5,14 @@ ghost use Rattle.c_grammar.specs.StmtView.{argument_view, call_view, comma_list_
 ghost use Rattle.c_grammar.specs.Symbols.{isnt};
 ghost use Rattle.c_grammar.specs.declared.terminal.Symbol.TheVariants as w;
 ghost use Rattle.c_grammar.specs.Reading.{expr_at, maybe};
-ghost use Rattle.c_grammar.specs.StmtReading.{argument_of, call_of, calls, comma_list_of, right_of};
-ghost use Rattle.c_parse.specs.Gives.{Gives};
+ghost use Rattle.c_grammar.specs.StmtReading.{read_argument, read_call, calls, read_comma_list, read_right};
+ghost use Rattle.c_parse.specs.inside.Gives.{AgreesWithReading};
 
 use crate::comma_list::{InCommaList, comma_list};
 use crate::expression::{expr, place};
-use crate::read::{ReadError, ended, expected, first_of, heads, read};
+use crate::read::{ParseError, ended, expected, first_of, heads, read};
 use crate::symbols::{Class, is_in};
-use c_grammar::statement::{Argument, Call, CommaList, Right};
+use c_grammar::statement::{Argument, CommaList, Right, WrittenCall};
 use c_grammar::terminal::{Symbol, Terminal};
 use std::alloc::Global;
 
@@ -23,16 +23,16 @@ impl InCommaList for Argument {
 
     ghost view = { argument_view };
 
-    ghost reading = { λ left. argument_of (expr_at left true) (expr_at (left - 1) true) };
+    ghost reading = { λ left. read_argument (expr_at left true) (expr_at (left - 1) true) };
 
     ghost shorter = { argument_shorter };
 
-    #[tactic(auto, unfolding(c_grammar::specs::StmtReading::argument_of))]
+    #[tactic(auto, unfolding(c_grammar::specs::StmtReading::read_argument))]
     fn read<'a>(
         alloc: Global,
         left: u8,
         terminals: &'a [Terminal],
-    ) -> Result<(Self, &'a [Terminal]), ReadError<'a>> {
+    ) -> Result<(Self, &'a [Terminal]), ParseError<'a>> {
         match first_of(terminals) {
             Some(Symbol::Text) => {
                 let (text, rest) = read!(expected(terminals, Symbol::Text));
@@ -64,14 +64,14 @@ pub fn calls(terminals: &[Terminal]) -> bool
     }
 }
 
-#[tactic(auto, unfolding(c_grammar::specs::StmtReading::call_of))]
+#[tactic(auto, unfolding(c_grammar::specs::StmtReading::read_call))]
 pub fn call(
     alloc: Global,
     left: u8,
     terminals: &[Terminal],
-) -> Result<(Call, &[Terminal]), ReadError>
+) -> Result<(WrittenCall, &[Terminal]), ParseError>
     requires { 0 < left }
-    ensures { Gives (λ x. (call_view x.0, x.1.now)) result (call_of (expr_at left true) (expr_at (left - 1) true) terminals.now) }
+    ensures { AgreesWithReading (λ x. (call_view x.0, x.1.now)) result (read_call (expr_at left true) (expr_at (left - 1) true) terminals.now) }
 {
     let ((name, opening), rest) = read!(ended(
         expected(terminals, Symbol::Name),
@@ -81,7 +81,7 @@ pub fn call(
         arguments(alloc, left, rest),
         Symbol::CloseParen
     ));
-    let call = Call {
+    let call = WrittenCall {
         name,
         opening,
         arguments,
@@ -94,10 +94,10 @@ fn arguments(
     alloc: Global,
     left: u8,
     terminals: &[Terminal],
-) -> Result<(Option<CommaList<Argument>>, &[Terminal]), ReadError>
+) -> Result<(Option<CommaList<Argument>>, &[Terminal]), ParseError>
     requires { 0 < left }
-    ensures { Gives (λ x. (option_map (comma_list_view argument_view) x.0, x.1.now)) result
-        (maybe (isnt w.CloseParen) (comma_list_of (argument_of (expr_at left true) (expr_at (left - 1) true))) terminals.now) }
+    ensures { AgreesWithReading (λ x. (option_map (comma_list_view argument_view) x.0, x.1.now)) result
+        (maybe (isnt w.CloseParen) (read_comma_list (read_argument (expr_at left true) (expr_at (left - 1) true))) terminals.now) }
 {
     if heads(terminals, Class::Isnt(Symbol::CloseParen)) {
         let (list, rest) = read!(comma_list(alloc, left, terminals));
@@ -108,14 +108,14 @@ fn arguments(
 }
 
 /// A right side.
-#[tactic(auto, unfolding(c_grammar::specs::StmtReading::right_of))]
+#[tactic(auto, unfolding(c_grammar::specs::StmtReading::read_right))]
 pub fn right(
     alloc: Global,
     left: u8,
     terminals: &[Terminal],
-) -> Result<(Right, &[Terminal]), ReadError>
+) -> Result<(Right, &[Terminal]), ParseError>
     requires { 0 < left }
-    ensures { Gives (λ x. (right_view x.0, x.1.now)) result (right_of (expr_at left true) (expr_at (left - 1) true) terminals.now) }
+    ensures { AgreesWithReading (λ x. (right_view x.0, x.1.now)) result (read_right (expr_at left true) (expr_at (left - 1) true) terminals.now) }
 {
     if calls(terminals) {
         let (call, rest) = read!(call(alloc, left, terminals));

@@ -5,10 +5,10 @@ ghost use Rattle.c_grammar.specs.declared.terminal.Symbol.TheVariants.{Comma};
 ghost use Rattle.c_grammar.specs.StmtView.{comma_list_view};
 ghost use Rattle.c_grammar.specs.Symbols.{is};
 ghost use Rattle.c_grammar.specs.Reading.{Answer, many};
-ghost use Rattle.c_grammar.specs.StmtReading.{after_comma_of, comma_list_of};
-ghost use Rattle.c_parse.specs.Gives.{Gives};
+ghost use Rattle.c_grammar.specs.StmtReading.{read_after_comma, read_comma_list};
+ghost use Rattle.c_parse.specs.inside.Gives.{AgreesWithReading};
 
-use crate::read::{ReadError, expected, heads, push, read};
+use crate::read::{ParseError, expected, heads, push, read};
 use crate::symbols::Class;
 use c_grammar::statement::{AfterComma, CommaList};
 use c_grammar::terminal::{Symbol, Terminal};
@@ -29,9 +29,9 @@ pub trait InCommaList: Sized + Drop {
         alloc: Global,
         left: u8,
         terminals: &'a [Terminal],
-    ) -> Result<(Self, &'a [Terminal]), ReadError<'a>>
+    ) -> Result<(Self, &'a [Terminal]), ParseError<'a>>
         requires { 0 < left }
-        ensures { Gives (λ x. (view x.0, x.1.now)) result (reading left terminals.now) };
+        ensures { AgreesWithReading (λ x. (view x.0, x.1.now)) result (reading left terminals.now) };
 
     // Reading stops at or after where it began.
     ghost shorter: { (left : ℕ) (terminals : List Terminal) (read : Tree × List Terminal)
@@ -43,9 +43,9 @@ pub fn comma_list<T: InCommaList>(
     alloc: Global,
     left: u8,
     terminals: &[Terminal],
-) -> Result<(CommaList<T>, &[Terminal]), ReadError>
+) -> Result<(CommaList<T>, &[Terminal]), ParseError>
     requires { 0 < left }
-    ensures { Gives (λ x. (comma_list_view T.view x.0, x.1.now)) result (comma_list_of (T.reading left) terminals.now) }
+    ensures { AgreesWithReading (λ x. (comma_list_view T.view x.0, x.1.now)) result (read_comma_list (T.reading left) terminals.now) }
 {
     let (first, rest) = read!(T::read(alloc, left, terminals));
     let (more, rest) = read!(others(alloc, left, rest));
@@ -57,10 +57,10 @@ fn others<T: InCommaList>(
     alloc: Global,
     left: u8,
     terminals: &[Terminal],
-) -> Result<(Vec<AfterComma<T>>, &[Terminal]), ReadError>
+) -> Result<(Vec<AfterComma<T>>, &[Terminal]), ParseError>
     requires { 0 < left }
-    ensures { Gives (λ x. (map (λ one. (one.comma, T.view one.item)) x.0.items, x.1.now)) result
-        (many (is Comma) (after_comma_of (T.reading left)) terminals.now) }
+    ensures { AgreesWithReading (λ x. (map (λ one. (one.comma, T.view one.item)) x.0.items, x.1.now)) result
+        (many (is Comma) (read_after_comma (T.reading left)) terminals.now) }
 {
     let mut found = Vec::new(alloc);
     let mut rest = terminals;
@@ -77,9 +77,9 @@ fn after_comma<T: InCommaList>(
     alloc: Global,
     left: u8,
     terminals: &[Terminal],
-) -> Result<(AfterComma<T>, &[Terminal]), ReadError>
+) -> Result<(AfterComma<T>, &[Terminal]), ParseError>
     requires { 0 < left }
-    ensures { Gives (λ x. ((x.0.comma, T.view x.0.item), x.1.now)) result (after_comma_of (T.reading left) terminals.now) }
+    ensures { AgreesWithReading (λ x. ((x.0.comma, T.view x.0.item), x.1.now)) result (read_after_comma (T.reading left) terminals.now) }
 {
     let (comma, rest) = read!(expected(terminals, Symbol::Comma));
     let (item, rest) = read!(T::read(alloc, left, rest));

@@ -5,28 +5,28 @@ ghost use Rattle.c_grammar.specs.StmtView.{declaration_view, initial_view, item_
 ghost use Rattle.c_grammar.specs.Symbols.{is};
 ghost use Rattle.c_grammar.specs.declared.terminal.Symbol.TheVariants as w;
 ghost use Rattle.c_grammar.specs.Reading.{expr_at, maybe};
-ghost use Rattle.c_grammar.specs.StmtReading.{declaration_of, initial_of, initial_tail, item_of};
-ghost use Rattle.c_parse.specs.Gives.{Gives};
-ghost use Rattle.c_parse.specs.Declarations.{declared_of};
+ghost use Rattle.c_grammar.specs.StmtReading.{read_declaration, read_initial, initial_tail, read_declarator};
+ghost use Rattle.c_parse.specs.inside.Gives.{AgreesWithReading};
+ghost use Rattle.c_parse.specs.inside.Declarations.{declared_of};
 
 use crate::call::right;
 use crate::comma_list::{InCommaList, comma_list};
 use crate::expression::place;
-use crate::read::{ReadError, ended, expected, heads, one_of, read, taken};
+use crate::read::{ParseError, ended, expected, heads, one_of, read, taken};
 use crate::symbols::Class;
 use c_grammar::statement::{Declaration, InitDeclarator, Initializer, Part};
 use c_grammar::terminal::{Symbol, Terminal};
 use std::alloc::Global;
 
 /// A declaration without its `;`.
-#[tactic(auto, unfolding(c_grammar::specs::StmtReading::declaration_of))]
+#[tactic(auto, unfolding(c_grammar::specs::StmtReading::read_declaration))]
 pub fn declaration(
     alloc: Global,
     left: u8,
     terminals: &[Terminal],
-) -> Result<(Declaration, &[Terminal]), ReadError>
+) -> Result<(Declaration, &[Terminal]), ParseError>
     requires { 0 < left }
-    ensures { Gives (λ x. (declaration_view x.0, x.1.now)) result (declaration_of (expr_at left true) (expr_at (left - 1) true) terminals.now) }
+    ensures { AgreesWithReading (λ x. (declaration_view x.0, x.1.now)) result (read_declaration (expr_at left true) (expr_at (left - 1) true) terminals.now) }
 {
     let (kind, rest) = read!(one_of(terminals, Class::Kind));
     let (items, rest) = read!(comma_list(alloc, left, rest));
@@ -44,9 +44,9 @@ pub fn declared(
     alloc: Global,
     left: u8,
     terminals: &[Terminal],
-) -> Result<(Part, &[Terminal]), ReadError>
+) -> Result<(Part, &[Terminal]), ParseError>
     requires { 0 < left }
-    ensures { Gives (λ x. (part_view x.0, x.1.now)) result (declared_of (expr_at left true) (expr_at (left - 1) true) terminals.now) }
+    ensures { AgreesWithReading (λ x. (part_view x.0, x.1.now)) result (declared_of (expr_at left true) (expr_at (left - 1) true) terminals.now) }
 {
     let ((declaration, end), rest) = read!(ended(
         declaration(alloc, left, terminals),
@@ -62,16 +62,16 @@ impl InCommaList for InitDeclarator {
 
     ghost view = { item_view };
 
-    ghost reading = { λ left. item_of (expr_at left true) (expr_at (left - 1) true) };
+    ghost reading = { λ left. read_declarator (expr_at left true) (expr_at (left - 1) true) };
 
     ghost shorter = { item_shorter };
 
-    #[tactic(auto, unfolding(c_grammar::specs::StmtReading::item_of))]
+    #[tactic(auto, unfolding(c_grammar::specs::StmtReading::read_declarator))]
     fn read<'a>(
         alloc: Global,
         left: u8,
         terminals: &'a [Terminal],
-    ) -> Result<(Self, &'a [Terminal]), ReadError<'a>> {
+    ) -> Result<(Self, &'a [Terminal]), ParseError<'a>> {
         let (place, rest) = read!(place(alloc, left, terminals));
         let (initial, rest) = read!(maybe_initial(alloc, left, rest));
         Ok((InitDeclarator { place, initial }, rest))
@@ -83,10 +83,10 @@ fn maybe_initial(
     alloc: Global,
     left: u8,
     terminals: &[Terminal],
-) -> Result<(Option<Initializer>, &[Terminal]), ReadError>
+) -> Result<(Option<Initializer>, &[Terminal]), ParseError>
     requires { 0 < left }
-    ensures { Gives (λ x. (option_map initial_view x.0, x.1.now)) result
-        (maybe (is w.Assign) (initial_of (expr_at left true) (expr_at (left - 1) true)) terminals.now) }
+    ensures { AgreesWithReading (λ x. (option_map initial_view x.0, x.1.now)) result
+        (maybe (is w.Assign) (read_initial (expr_at left true) (expr_at (left - 1) true)) terminals.now) }
 {
     if heads(terminals, Class::Is(Symbol::Assign)) {
         let (initial, rest) = read!(initial(alloc, left, terminals));
@@ -96,14 +96,14 @@ fn maybe_initial(
     }
 }
 
-#[tactic(auto, unfolding(c_grammar::specs::StmtReading::initial_of))]
+#[tactic(auto, unfolding(c_grammar::specs::StmtReading::read_initial))]
 fn initial(
     alloc: Global,
     left: u8,
     terminals: &[Terminal],
-) -> Result<(Initializer, &[Terminal]), ReadError>
+) -> Result<(Initializer, &[Terminal]), ParseError>
     requires { 0 < left }
-    ensures { Gives (λ x. (initial_view x.0, x.1.now)) result (initial_of (expr_at left true) (expr_at (left - 1) true) terminals.now) }
+    ensures { AgreesWithReading (λ x. (initial_view x.0, x.1.now)) result (read_initial (expr_at left true) (expr_at (left - 1) true) terminals.now) }
 {
     let (mark, rest) = read!(expected(terminals, Symbol::Assign));
     if let Some((opening, rest)) = taken(rest, Symbol::OpenBrace) {

@@ -4,12 +4,12 @@ ghost use Rattle.c_grammar.specs.Tree as t;
 ghost use Rattle.c_grammar.specs.declared.limits.TheConstants.{CONDITIONAL_LEVEL};
 ghost use Rattle.c_grammar.specs.View.{piece, place_view, view};
 ghost use Rattle.c_grammar.specs.Symbols.{level_of, starts_expr};
-ghost use Rattle.c_grammar.specs.Reading.{bin_of, branches_of, chained, choice_of, expr_at, field_tail, link_of, many, number_of, paren_of, place_of, signed_of, too_deep, unary_of};
-ghost use Rattle.c_parse.specs.Gives.{Fails, Gives};
+ghost use Rattle.c_grammar.specs.Reading.{read_binary, read_branches, chain_or_operand, read_choice, expr_at, field_tail, read_link, many, read_number, read_paren, read_place, read_signed, too_deep, read_unary};
+ghost use Rattle.c_parse.specs.inside.Gives.{FailsToRead, AgreesWithReading};
 
 use crate::comma_list::InCommaList;
 use crate::read::{
-    ReadError, both, boxed, ended, expected, first_of, heads, one_of, push, read, taken,
+    ParseError, both, boxed, ended, expected, first_of, heads, one_of, push, read, taken,
 };
 use crate::symbols::{Class, starts_expr};
 use c_grammar::limits::CONDITIONAL_LEVEL;
@@ -26,8 +26,8 @@ pub fn expr(
     left: u8,
     full: bool,
     terminals: &[Terminal],
-) -> Result<(Expr, &[Terminal]), ReadError>
-    ensures { Gives (λ x. (view x.0, x.1.now)) result (expr_at left full terminals.now) }
+) -> Result<(Expr, &[Terminal]), ParseError>
+    ensures { AgreesWithReading (λ x. (view x.0, x.1.now)) result (expr_at left full terminals.now) }
 {
     if left == 0 {
         return Err(deep_fault(terminals));
@@ -40,10 +40,14 @@ pub fn expr(
 }
 
 #[cycle(expression)]
-#[tactic(auto, unfolding(c_grammar::specs::Reading::choice_of), using(c_grammar::proofs::Viewed::views))]
-fn choice(alloc: Global, left: u8, terminals: &[Terminal]) -> Result<(Expr, &[Terminal]), ReadError>
+#[tactic(auto, unfolding(c_grammar::specs::Reading::read_choice), using(c_grammar::proofs::Viewed::views))]
+fn choice(
+    alloc: Global,
+    left: u8,
+    terminals: &[Terminal],
+) -> Result<(Expr, &[Terminal]), ParseError>
     requires { 0 < left }
-    ensures { Gives (λ x. (view x.0, x.1.now)) result (choice_of (expr_at (left - 1)) terminals.now) }
+    ensures { AgreesWithReading (λ x. (view x.0, x.1.now)) result (read_choice (expr_at (left - 1)) terminals.now) }
 {
     let (test, rest) = read!(bin(alloc, left, CONDITIONAL_LEVEL - 1, terminals));
     if heads(rest, Class::Is(Symbol::Question)) {
@@ -61,12 +65,12 @@ fn branches(
     left: u8,
     test: Expr,
     terminals: &[Terminal],
-) -> Result<(Expr, &[Terminal]), ReadError>
+) -> Result<(Expr, &[Terminal]), ParseError>
     requires { 0 < left }
-    ensures { Gives (λ x. (view x.0, x.1.now)) result (branches_of (expr_at (left - 1)) (view test) terminals.now) }
+    ensures { AgreesWithReading (λ x. (view x.0, x.1.now)) result (read_branches (expr_at (left - 1)) (view test) terminals.now) }
 {
     let Ok(test) = boxed(alloc, test) else {
-        return Err(ReadError::Memory);
+        return Err(ParseError::Memory);
     };
     let (question, rest) = read!(expected(terminals, Symbol::Question));
     let ((then, colon), rest) = read!(ended(deeper(alloc, left, true, rest), Symbol::Colon));
@@ -88,29 +92,29 @@ fn deeper(
     left: u8,
     full: bool,
     terminals: &[Terminal],
-) -> Result<(Box<Expr>, &[Terminal]), ReadError>
+) -> Result<(Box<Expr>, &[Terminal]), ParseError>
     requires { 0 < left }
-    ensures { Gives (λ x. (view x.0.value, x.1.now)) result (expr_at (left - 1) full terminals.now) }
+    ensures { AgreesWithReading (λ x. (view x.0.value, x.1.now)) result (expr_at (left - 1) full terminals.now) }
 {
     let (tree, rest) = read!(expr(alloc, left - 1, full, terminals));
     let Ok(tree) = boxed(alloc, tree) else {
-        return Err(ReadError::Memory);
+        return Err(ParseError::Memory);
     };
     Ok((tree, rest))
 }
 
 /// Operators up to a level and their operands.
 #[cycle(expression)]
-#[tactic(auto, unfolding(c_grammar::specs::Reading::bin_of), using(crate::proofs::ExprLeft::bin_more))]
+#[tactic(auto, unfolding(c_grammar::specs::Reading::read_binary), using(crate::proofs::ExprLeft::bin_more))]
 fn bin(
     alloc: Global,
     left: u8,
     most: u8,
     terminals: &[Terminal],
-) -> Result<(Expr, &[Terminal]), ReadError>
+) -> Result<(Expr, &[Terminal]), ParseError>
     requires left { 0 < left }
     requires most { most < CONDITIONAL_LEVEL }
-    ensures { Gives (λ x. (view x.0, x.1.now)) result (bin_of (unary_of (expr_at (left - 1))) most terminals.now) }
+    ensures { AgreesWithReading (λ x. (view x.0, x.1.now)) result (read_binary (read_unary (expr_at (left - 1))) most terminals.now) }
 {
     if most == 0 {
         return unary(alloc, left, terminals);
@@ -119,7 +123,7 @@ fn bin(
     let ((first, links), rest) = read!(both(first, links(alloc, left, most, rest)));
     match chain(alloc, most, first, links) {
         Ok(chain) => Ok((chain, rest)),
-        Err(AllocError) => Err(ReadError::Memory),
+        Err(AllocError) => Err(ParseError::Memory),
     }
 }
 
@@ -130,12 +134,12 @@ fn links(
     left: u8,
     most: u8,
     terminals: &[Terminal],
-) -> Result<(Vec<Link>, &[Terminal]), ReadError>
+) -> Result<(Vec<Link>, &[Terminal]), ParseError>
     requires left { 0 < left }
     requires zero { 0 < most }
     requires most { most < CONDITIONAL_LEVEL }
-    ensures { Gives (λ x. (map piece x.0.items, x.1.now)) result
-        (many (λ x. level_of x == most) (link_of (bin_of (unary_of (expr_at (left - 1))) (most - 1)) most) terminals.now) }
+    ensures { AgreesWithReading (λ x. (map piece x.0.items, x.1.now)) result
+        (many (λ x. level_of x == most) (read_link (read_binary (read_unary (expr_at (left - 1))) (most - 1)) most) terminals.now) }
 {
     let mut found = Vec::new(alloc);
     let mut rest = terminals;
@@ -153,11 +157,11 @@ fn link(
     left: u8,
     most: u8,
     terminals: &[Terminal],
-) -> Result<(Link, &[Terminal]), ReadError>
+) -> Result<(Link, &[Terminal]), ParseError>
     requires left { 0 < left }
     requires zero { 0 < most }
     requires most { most < CONDITIONAL_LEVEL }
-    ensures { Gives (λ x. (piece x.0, x.1.now)) result (link_of (bin_of (unary_of (expr_at (left - 1))) (most - 1)) most terminals.now) }
+    ensures { AgreesWithReading (λ x. (piece x.0, x.1.now)) result (read_link (read_binary (read_unary (expr_at (left - 1))) (most - 1)) most terminals.now) }
 {
     let (operator, rest) = read!(one_of(terminals, Class::Level(most)));
     let (operand, rest) = read!(bin(alloc, left, most - 1, rest));
@@ -170,10 +174,10 @@ fn link(
 }
 
 #[cycle(expression)]
-#[tactic(auto, unfolding(c_grammar::specs::Reading::unary_of), using(c_grammar::proofs::Viewed::views))]
-fn unary(alloc: Global, left: u8, terminals: &[Terminal]) -> Result<(Expr, &[Terminal]), ReadError>
+#[tactic(auto, unfolding(c_grammar::specs::Reading::read_unary), using(c_grammar::proofs::Viewed::views))]
+fn unary(alloc: Global, left: u8, terminals: &[Terminal]) -> Result<(Expr, &[Terminal]), ParseError>
     requires { 0 < left }
-    ensures { Gives (λ x. (view x.0, x.1.now)) result (unary_of (expr_at (left - 1)) terminals.now) }
+    ensures { AgreesWithReading (λ x. (view x.0, x.1.now)) result (read_unary (expr_at (left - 1)) terminals.now) }
 {
     match first_of(terminals) {
         Some(Symbol::Number) => number(terminals),
@@ -188,9 +192,9 @@ fn unary(alloc: Global, left: u8, terminals: &[Terminal]) -> Result<(Expr, &[Ter
 
 #[cycle(expression)]
 #[tactic(auto, using(c_grammar::proofs::Viewed::views))]
-fn paren(alloc: Global, left: u8, terminals: &[Terminal]) -> Result<(Expr, &[Terminal]), ReadError>
+fn paren(alloc: Global, left: u8, terminals: &[Terminal]) -> Result<(Expr, &[Terminal]), ParseError>
     requires { 0 < left }
-    ensures { Gives (λ x. (view x.0, x.1.now)) result (paren_of (expr_at (left - 1)) terminals.now) }
+    ensures { AgreesWithReading (λ x. (view x.0, x.1.now)) result (read_paren (expr_at (left - 1)) terminals.now) }
 {
     let (opening, rest) = read!(expected(terminals, Symbol::OpenParen));
     let ((inner, closing), rest) = read!(ended(
@@ -207,9 +211,13 @@ fn paren(alloc: Global, left: u8, terminals: &[Terminal]) -> Result<(Expr, &[Ter
 
 #[cycle(expression)]
 #[tactic(auto, using(c_grammar::proofs::Viewed::views))]
-fn signed(alloc: Global, left: u8, terminals: &[Terminal]) -> Result<(Expr, &[Terminal]), ReadError>
+fn signed(
+    alloc: Global,
+    left: u8,
+    terminals: &[Terminal],
+) -> Result<(Expr, &[Terminal]), ParseError>
     requires { 0 < left }
-    ensures { Gives (λ x. (view x.0, x.1.now)) result (signed_of (expr_at (left - 1)) terminals.now) }
+    ensures { AgreesWithReading (λ x. (view x.0, x.1.now)) result (read_signed (expr_at (left - 1)) terminals.now) }
 {
     let (sign, rest) = read!(one_of(terminals, Class::Sign));
     let (operand, rest) = read!(deeper(alloc, left, false, rest));
@@ -223,14 +231,14 @@ fn signed(alloc: Global, left: u8, terminals: &[Terminal]) -> Result<(Expr, &[Te
 
 /// A name, with an index in brackets or not.
 #[cycle(expression)]
-#[tactic(auto, unfolding(c_grammar::specs::Reading::place_of), using(c_grammar::proofs::Viewed::views))]
+#[tactic(auto, unfolding(c_grammar::specs::Reading::read_place), using(c_grammar::proofs::Viewed::views))]
 pub fn place(
     alloc: Global,
     left: u8,
     terminals: &[Terminal],
-) -> Result<(Place, &[Terminal]), ReadError>
+) -> Result<(Place, &[Terminal]), ParseError>
     requires { 0 < left }
-    ensures { Gives (λ x. (place_view x.0, x.1.now)) result (place_of (expr_at (left - 1) true) terminals.now) }
+    ensures { AgreesWithReading (λ x. (place_view x.0, x.1.now)) result (read_place (expr_at (left - 1) true) terminals.now) }
 {
     let (name, rest) = read!(expected(terminals, Symbol::Name));
     if let Some((opening, rest)) = taken(rest, Symbol::OpenBracket) {
@@ -251,8 +259,8 @@ pub fn place(
 }
 
 #[tactic(auto, using(c_grammar::proofs::Viewed::views))]
-fn number(terminals: &[Terminal]) -> Result<(Expr, &[Terminal]), ReadError>
-    ensures { Gives (λ x. (view x.0, x.1.now)) result (number_of terminals.now) }
+fn number(terminals: &[Terminal]) -> Result<(Expr, &[Terminal]), ParseError>
+    ensures { AgreesWithReading (λ x. (view x.0, x.1.now)) result (read_number terminals.now) }
 {
     let (at, rest) = read!(expected(terminals, Symbol::Number));
     Ok((Expr::Number(at), rest))
@@ -260,8 +268,8 @@ fn number(terminals: &[Terminal]) -> Result<(Expr, &[Terminal]), ReadError>
 
 /// What is after a place that is read.
 #[tactic(auto, using(c_grammar::proofs::Viewed::views))]
-fn field(place: Place, terminals: &[Terminal]) -> Result<(Expr, &[Terminal]), ReadError>
-    ensures { Gives (λ x. (view x.0, x.1.now)) result (field_tail (place_view place) terminals.now) }
+fn field(place: Place, terminals: &[Terminal]) -> Result<(Expr, &[Terminal]), ParseError>
+    ensures { AgreesWithReading (λ x. (view x.0, x.1.now)) result (field_tail (place_view place) terminals.now) }
 {
     if let Some((dot, rest)) = taken(terminals, Symbol::Dot) {
         let (name, rest) = read!(expected(rest, Symbol::Name));
@@ -273,24 +281,24 @@ fn field(place: Place, terminals: &[Terminal]) -> Result<(Expr, &[Terminal]), Re
 
 /// What is too deep.
 #[tactic(auto, unfolding(c_grammar::specs::Reading::too_deep))]
-fn deep_fault(terminals: &[Terminal]) -> ReadError
-    ensures { Fails result (too_deep {A = t.Expr} starts_expr terminals.now) }
+fn deep_fault(terminals: &[Terminal]) -> ParseError
+    ensures { FailsToRead result (too_deep {A = t.Expr} starts_expr terminals.now) }
 {
     match first_of(terminals) {
         Some(symbol) => {
             if starts_expr(symbol) {
-                ReadError::At(Why::TooDeep, terminals)
+                ParseError::At(Why::TooDeep, terminals)
             } else {
-                ReadError::At(Why::Unexpected, terminals)
+                ParseError::At(Why::Unexpected, terminals)
             }
         }
-        None => ReadError::At(Why::Unexpected, terminals),
+        None => ParseError::At(Why::Unexpected, terminals),
     }
 }
 
 /// The operands of one level, if there are several.
 fn chain(alloc: Global, level: u8, first: Expr, links: Vec<Link>) -> Result<Expr, AllocError>
-    ensures { IfOk result (λ e. view e ≡ chained level (view first) (map piece links.items)) }
+    ensures { IfOk result (λ e. view e ≡ chain_or_operand level (view first) (map piece links.items)) }
 {
     if links.is_empty() {
         return Ok(first);
@@ -320,7 +328,7 @@ impl InCommaList for Expr {
         alloc: Global,
         left: u8,
         terminals: &'a [Terminal],
-    ) -> Result<(Self, &'a [Terminal]), ReadError<'a>> {
+    ) -> Result<(Self, &'a [Terminal]), ParseError<'a>> {
         expr(alloc, left, true, terminals)
     }
 }

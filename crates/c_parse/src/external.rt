@@ -1,16 +1,16 @@
 //! The readers of defines, functions and whole programs.
 ghost use Rattle.std.specs.Prelude.{◌≡◌, [], Option, Some, None, true, length, map};
 ghost use Rattle.c_grammar.specs.StmtView.{head_view, parameter_view, parameters_view, external_view, tree_view, value_view};
-ghost use Rattle.c_grammar.specs.StmtGrammar.{are_named, has, is_named, name_of};
+ghost use Rattle.c_grammar.specs.StmtGrammar.{are_named, has, all_named, name_of_parameter};
 ghost use Rattle.c_grammar.specs.Symbols.{is};
 ghost use Rattle.c_grammar.specs.declared.limits.TheConstants.{MOST_DEPTHS};
 ghost use Rattle.c_grammar.specs.declared.terminal.Symbol.TheVariants as w;
-ghost use Rattle.c_grammar.specs.Reading.{expect, many, times};
-ghost use Rattle.c_grammar.specs.StmtReading.{body_of, define_of, head_tail, part_at, program_of, external_of, value_of};
-ghost use Rattle.c_parse.specs.Gives.{Gives};
+ghost use Rattle.c_grammar.specs.Reading.{expect, many, read_times};
+ghost use Rattle.c_grammar.specs.StmtReading.{read_body, read_define, head_tail, part_at, read_whole_text, read_external, read_value};
+ghost use Rattle.c_parse.specs.inside.Gives.{AgreesWithReading};
 
 use crate::function_head::head;
-use crate::read::{ReadError, both, ended, expected, heads, optional, push, read};
+use crate::read::{ParseError, both, ended, expected, heads, optional, push, read};
 use crate::statement::block;
 use crate::symbols::Class;
 use c_grammar::limits::MOST_DEPTHS;
@@ -22,9 +22,9 @@ use c_lex::Why;
 use std::alloc::Global;
 
 /// A program and no more.
-#[tactic(auto, unfolding(c_grammar::specs::StmtReading::program_of))]
-pub fn program(alloc: Global, terminals: &[Terminal]) -> Result<Tree, ReadError>
-    ensures { Gives (λ tree. (tree_view tree, [])) result (program_of terminals.now) }
+#[tactic(auto, unfolding(c_grammar::specs::StmtReading::read_whole_text))]
+pub fn program(alloc: Global, terminals: &[Terminal]) -> Result<Tree, ParseError>
+    ensures { AgreesWithReading (λ tree. (tree_view tree, [])) result (read_whole_text terminals.now) }
 {
     let mut externals = Vec::new(alloc);
     let mut rest = terminals;
@@ -41,8 +41,8 @@ pub fn program(alloc: Global, terminals: &[Terminal]) -> Result<Tree, ReadError>
 fn external(
     alloc: Global,
     terminals: &[Terminal],
-) -> Result<(ExternalDeclaration, &[Terminal]), ReadError>
-    ensures { Gives (λ x. (external_view x.0, x.1.now)) result (external_of terminals.now) }
+) -> Result<(ExternalDeclaration, &[Terminal]), ParseError>
+    ensures { AgreesWithReading (λ x. (external_view x.0, x.1.now)) result (read_external terminals.now) }
 {
     if heads(terminals, Class::Is(Symbol::Define)) {
         define(alloc, terminals)
@@ -55,8 +55,8 @@ fn external(
 fn define(
     alloc: Global,
     terminals: &[Terminal],
-) -> Result<(ExternalDeclaration, &[Terminal]), ReadError>
-    ensures { Gives (λ x. (external_view x.0, x.1.now)) result (define_of terminals.now) }
+) -> Result<(ExternalDeclaration, &[Terminal]), ParseError>
+    ensures { AgreesWithReading (λ x. (external_view x.0, x.1.now)) result (read_define terminals.now) }
 {
     let ((directive, name), rest) = read!(ended(expected(terminals, Symbol::Define), Symbol::Name));
     let ((value, end), rest) = read!(ended(value(alloc, rest), Symbol::EndLine));
@@ -70,9 +70,9 @@ fn define(
 }
 
 /// The value of a define.
-#[tactic(auto, unfolding(c_grammar::specs::StmtReading::value_of))]
-fn value(alloc: Global, terminals: &[Terminal]) -> Result<(Value, &[Terminal]), ReadError>
-    ensures { Gives (λ x. (value_view x.0, x.1.now)) result (value_of terminals.now) }
+#[tactic(auto, unfolding(c_grammar::specs::StmtReading::read_value))]
+fn value(alloc: Global, terminals: &[Terminal]) -> Result<(Value, &[Terminal]), ParseError>
+    ensures { AgreesWithReading (λ x. (value_view x.0, x.1.now)) result (read_value terminals.now) }
 {
     let (opens, rest) = read!(opens(alloc, terminals));
     let (minus, rest) = optional(rest, Symbol::Minus);
@@ -87,8 +87,8 @@ fn value(alloc: Global, terminals: &[Terminal]) -> Result<(Value, &[Terminal]), 
     Ok((value, rest))
 }
 
-fn opens(alloc: Global, terminals: &[Terminal]) -> Result<(Vec<Span>, &[Terminal]), ReadError>
-    ensures { Gives (λ x. (x.0.items, x.1.now)) result (many (is w.OpenParen) (expect w.OpenParen) terminals.now) }
+fn opens(alloc: Global, terminals: &[Terminal]) -> Result<(Vec<Span>, &[Terminal]), ParseError>
+    ensures { AgreesWithReading (λ x. (x.0.items, x.1.now)) result (many (is w.OpenParen) (expect w.OpenParen) terminals.now) }
 {
     let mut found = Vec::new(alloc);
     let mut rest = terminals;
@@ -105,8 +105,8 @@ fn closes(
     alloc: Global,
     count: usize,
     terminals: &[Terminal],
-) -> Result<(Vec<Span>, &[Terminal]), ReadError>
-    ensures { Gives (λ x. (x.0.items, x.1.now)) result (times (expect w.CloseParen) count terminals.now) }
+) -> Result<(Vec<Span>, &[Terminal]), ParseError>
+    ensures { AgreesWithReading (λ x. (x.0.items, x.1.now)) result (read_times (expect w.CloseParen) count terminals.now) }
 {
     let mut found = Vec::new(alloc);
     let mut rest = terminals;
@@ -123,14 +123,14 @@ fn function(
     alloc: Global,
     head: Head,
     terminals: &[Terminal],
-) -> Result<(ExternalDeclaration, &[Terminal]), ReadError>
-    ensures { Gives (λ x. (external_view x.0, x.1.now)) result (head_tail (part_at MOST_DEPTHS) (head_view head) terminals.now) }
+) -> Result<(ExternalDeclaration, &[Terminal]), ParseError>
+    ensures { AgreesWithReading (λ x. (external_view x.0, x.1.now)) result (head_tail (part_at MOST_DEPTHS) (head_view head) terminals.now) }
 {
     if heads(terminals, Class::Is(Symbol::OpenBrace)) {
         if is_named(&head.parameters) {
             body(alloc, head, terminals)
         } else {
-            Err(ReadError::At(Why::Unexpected, terminals))
+            Err(ParseError::At(Why::Unexpected, terminals))
         }
     } else {
         let ((head, end), rest) = read!(both(head, expected(terminals, Symbol::Semicolon)));
@@ -144,8 +144,8 @@ fn body(
     alloc: Global,
     head: Head,
     terminals: &[Terminal],
-) -> Result<(ExternalDeclaration, &[Terminal]), ReadError>
-    ensures { Gives (λ x. (external_view x.0, x.1.now)) result (body_of (part_at MOST_DEPTHS) (head_view head) true terminals.now) }
+) -> Result<(ExternalDeclaration, &[Terminal]), ParseError>
+    ensures { AgreesWithReading (λ x. (external_view x.0, x.1.now)) result (read_body (part_at MOST_DEPTHS) (head_view head) true terminals.now) }
 {
     let ((head, block), rest) = read!(both(head, block(alloc, MOST_DEPTHS, terminals)));
     let function = ExternalDeclaration::Function {
@@ -159,7 +159,7 @@ fn body(
 
 /// Whether each parameter has a name.
 fn is_named(parameters: &Parameters) -> bool
-    ensures { result ≡ is_named (parameters_view parameters.now) }
+    ensures { result ≡ all_named (parameters_view parameters.now) }
 {
     match parameters {
         Parameters::Listed(list) => has_name(&list.first) && are_named(&list.more),
@@ -181,7 +181,7 @@ fn are_named(parameters: &[AfterComma<Parameter>]) -> bool
 }
 
 fn has_name(parameter: &Parameter) -> bool
-    ensures { result ≡ has (name_of (parameter_view parameter.now)) }
+    ensures { result ≡ has (name_of_parameter (parameter_view parameter.now)) }
 {
     match parameter {
         Parameter::Int { name, .. }

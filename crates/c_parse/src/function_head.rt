@@ -6,12 +6,12 @@ ghost use Rattle.c_grammar.specs.StmtView.{head_view, parameter_view, parameters
 ghost use Rattle.c_grammar.specs.Symbols.{isnt};
 ghost use Rattle.c_grammar.specs.declared.terminal.Symbol.TheVariants as w;
 ghost use Rattle.c_grammar.specs.Reading.{expr_at, first_of, maybe};
-ghost use Rattle.c_grammar.specs.StmtReading.{array_tail, char_tail, head_of, int_tail, parameter_of, parameters_by};
-ghost use Rattle.c_parse.specs.Gives.{Gives};
+ghost use Rattle.c_grammar.specs.StmtReading.{array_tail, char_tail, read_head, int_tail, read_parameter, parameters_by};
+ghost use Rattle.c_parse.specs.inside.Gives.{AgreesWithReading};
 
 use crate::comma_list::{InCommaList, comma_list};
 use crate::expression::expr;
-use crate::read::{ReadError, ended, expected, first_of, heads, one_of, optional, read, taken};
+use crate::read::{ParseError, ended, expected, first_of, heads, one_of, optional, read, taken};
 use crate::symbols::Class;
 use c_grammar::statement::{Head, Parameter, Parameters};
 use c_grammar::terminal::{Span, Symbol, Terminal};
@@ -19,14 +19,14 @@ use c_grammar::tree::Expr;
 use std::alloc::Global;
 
 /// A function's head with `left` depths left; the lengths of its arrays are one deeper.
-#[tactic(auto, unfolding(c_grammar::specs::StmtReading::head_of))]
+#[tactic(auto, unfolding(c_grammar::specs::StmtReading::read_head))]
 pub fn head(
     alloc: Global,
     left: u8,
     terminals: &[Terminal],
-) -> Result<(Head, &[Terminal]), ReadError>
+) -> Result<(Head, &[Terminal]), ParseError>
     requires { 0 < left }
-    ensures { Gives (λ x. (head_view x.0, x.1.now)) result (head_of (expr_at (left - 1) true) terminals.now) }
+    ensures { AgreesWithReading (λ x. (head_view x.0, x.1.now)) result (read_head (expr_at (left - 1) true) terminals.now) }
 {
     let (result, rest) = read!(one_of(terminals, Class::Outcome));
     let ((name, opening), rest) = read!(ended(expected(rest, Symbol::Name), Symbol::OpenParen));
@@ -49,9 +49,9 @@ fn parameters(
     alloc: Global,
     left: u8,
     terminals: &[Terminal],
-) -> Result<(Parameters, &[Terminal]), ReadError>
+) -> Result<(Parameters, &[Terminal]), ParseError>
     requires { 0 < left }
-    ensures { Gives (λ x. (parameters_view x.0, x.1.now)) result (parameters_by (expr_at (left - 1) true) terminals.now (first_of terminals.now)) }
+    ensures { AgreesWithReading (λ x. (parameters_view x.0, x.1.now)) result (parameters_by (expr_at (left - 1) true) terminals.now (first_of terminals.now)) }
 {
     match first_of(terminals) {
         Some(Symbol::CloseParen) => Ok((Parameters::Nothing, terminals)),
@@ -73,16 +73,16 @@ impl InCommaList for Parameter {
 
     ghost view = { parameter_view };
 
-    ghost reading = { λ left. parameter_of (expr_at (left - 1) true) };
+    ghost reading = { λ left. read_parameter (expr_at (left - 1) true) };
 
     ghost shorter = { parameter_shorter };
 
-    #[tactic(auto, unfolding(c_grammar::specs::StmtReading::parameter_of))]
+    #[tactic(auto, unfolding(c_grammar::specs::StmtReading::read_parameter))]
     fn read<'a>(
         alloc: Global,
         left: u8,
         terminals: &'a [Terminal],
-    ) -> Result<(Self, &'a [Terminal]), ReadError<'a>> {
+    ) -> Result<(Self, &'a [Terminal]), ParseError<'a>> {
         match first_of(terminals) {
             Some(Symbol::Int) => {
                 let (keyword, rest) = read!(expected(terminals, Symbol::Int));
@@ -110,9 +110,9 @@ fn int_parameter(
     left: u8,
     keyword: Span,
     terminals: &[Terminal],
-) -> Result<(Parameter, &[Terminal]), ReadError>
+) -> Result<(Parameter, &[Terminal]), ParseError>
     requires { 0 < left }
-    ensures { Gives (λ x. (parameter_view x.0, x.1.now)) result (int_tail (expr_at (left - 1) true) keyword terminals.now) }
+    ensures { AgreesWithReading (λ x. (parameter_view x.0, x.1.now)) result (int_tail (expr_at (left - 1) true) keyword terminals.now) }
 {
     if let Some((star, rest)) = taken(terminals, Symbol::Times) {
         let (name, rest) = optional(rest, Symbol::Name);
@@ -137,9 +137,9 @@ fn array_parameter(
     keyword: Span,
     name: Option<Span>,
     terminals: &[Terminal],
-) -> Result<(Parameter, &[Terminal]), ReadError>
+) -> Result<(Parameter, &[Terminal]), ParseError>
     requires { 0 < left }
-    ensures { Gives (λ x. (parameter_view x.0, x.1.now)) result (array_tail (expr_at (left - 1) true) keyword name terminals.now) }
+    ensures { AgreesWithReading (λ x. (parameter_view x.0, x.1.now)) result (array_tail (expr_at (left - 1) true) keyword name terminals.now) }
 {
     if let Some((opening, rest)) = taken(terminals, Symbol::OpenBracket) {
         let ((length, closing), rest) = read!(ended(
@@ -164,9 +164,9 @@ fn length(
     alloc: Global,
     left: u8,
     terminals: &[Terminal],
-) -> Result<(Option<Expr>, &[Terminal]), ReadError>
+) -> Result<(Option<Expr>, &[Terminal]), ParseError>
     requires { 0 < left }
-    ensures { Gives (λ x. (option_map view x.0, x.1.now)) result (maybe (isnt w.CloseBracket) (expr_at (left - 1) true) terminals.now) }
+    ensures { AgreesWithReading (λ x. (option_map view x.0, x.1.now)) result (maybe (isnt w.CloseBracket) (expr_at (left - 1) true) terminals.now) }
 {
     if heads(terminals, Class::Isnt(Symbol::CloseBracket)) {
         let (length, rest) = read!(expr(alloc, left - 1, true, terminals));
@@ -181,8 +181,8 @@ fn char_parameter(
     keyword: Span,
     star: Span,
     terminals: &[Terminal],
-) -> Result<(Parameter, &[Terminal]), ReadError>
-    ensures { Gives (λ x. (parameter_view x.0, x.1.now)) result (char_tail keyword star terminals.now) }
+) -> Result<(Parameter, &[Terminal]), ParseError>
+    ensures { AgreesWithReading (λ x. (parameter_view x.0, x.1.now)) result (char_tail keyword star terminals.now) }
 {
     if let Some((second, rest)) = taken(terminals, Symbol::Times) {
         let (name, rest) = optional(rest, Symbol::Name);

@@ -1,8 +1,8 @@
 //! What all readers share.
 ghost use Rattle.std.specs.Prelude.{◌≡◌, ◌++◌, ◌∷◌, [], Err, IfErr, IfOk, Ok, OnOk};
 ghost use Rattle.c_grammar.specs.Reading.{expect, first_of, heads, maybe, one_of};
-ghost use Rattle.c_parse.specs.Classes.{is_in};
-ghost use Rattle.c_parse.specs.Gives.{Gives, HasPlace, IsEnded, IsHead, TakesSymbol};
+ghost use Rattle.c_parse.specs.inside.Classes.{is_in};
+ghost use Rattle.c_parse.specs.inside.Gives.{AgreesWithReading, HasPlace, IsEnded, IsFirstTerminal, TakesSymbol};
 ghost use Rattle.c_grammar.specs.Symbols.{is};
 
 use crate::symbols::{Class, is_in};
@@ -24,24 +24,24 @@ pub(crate) use read;
 
 /// Why reading stopped, and the terminals from there on.
 #[derive(Drop)]
-pub enum ReadError<'a> {
+pub enum ParseError<'a> {
     Memory,
     At(Why, &'a [Terminal]),
 }
 
-impl<'a> From<AllocError> for ReadError<'a> {
-    ghost use Rattle.c_parse.specs.declared.read.ReadError.TheVariants.{Memory};
+impl<'a> From<AllocError> for ParseError<'a> {
+    ghost use Rattle.c_parse.specs.declared.read.ParseError.TheVariants.{Memory};
 
     ghost from_gives = { λ _ error. error ≡ Memory };
 
     fn from(_error: AllocError) -> Self {
-        ReadError::Memory
+        ParseError::Memory
     }
 }
 
 /// The first terminal and those after it.
 fn head(terminals: &[Terminal]) -> Option<(Terminal, &[Terminal])>
-    ensures { IsHead terminals.now result }
+    ensures { IsFirstTerminal terminals.now result }
 {
     match terminals {
         [first, rest @ ..] => Some((*first, rest)),
@@ -71,8 +71,8 @@ pub fn heads(terminals: &[Terminal], class: Class) -> bool
 
 /// The first terminal, which has to be of a class. Takes no memory.
 #[tactic(auto, unfolding(c_grammar::specs::Reading::one_of))]
-pub fn one_of(terminals: &[Terminal], class: Class) -> Result<(Terminal, &[Terminal]), ReadError>
-    ensures read { Gives (λ x. (x.0, x.1.now)) result (one_of (is_in class) terminals.now) }
+pub fn one_of(terminals: &[Terminal], class: Class) -> Result<(Terminal, &[Terminal]), ParseError>
+    ensures read { AgreesWithReading (λ x. (x.0, x.1.now)) result (one_of (is_in class) terminals.now) }
     ensures place { IfErr result HasPlace }
 {
     match head(terminals) {
@@ -80,17 +80,17 @@ pub fn one_of(terminals: &[Terminal], class: Class) -> Result<(Terminal, &[Termi
             if is_in(class, first.symbol) {
                 Ok((first, rest))
             } else {
-                Err(ReadError::At(Why::Unexpected, terminals))
+                Err(ParseError::At(Why::Unexpected, terminals))
             }
         }
-        None => Err(ReadError::At(Why::Unexpected, terminals)),
+        None => Err(ParseError::At(Why::Unexpected, terminals)),
     }
 }
 
 /// The place of the first terminal, which has to be this symbol. Takes no memory.
 #[tactic(auto, unfolding(c_grammar::specs::Reading::expect))]
-pub fn expected(terminals: &[Terminal], symbol: Symbol) -> Result<(Span, &[Terminal]), ReadError>
-    ensures read { Gives (λ x. (x.0, x.1.now)) result (expect symbol terminals.now) }
+pub fn expected(terminals: &[Terminal], symbol: Symbol) -> Result<(Span, &[Terminal]), ParseError>
+    ensures read { AgreesWithReading (λ x. (x.0, x.1.now)) result (expect symbol terminals.now) }
     ensures place { IfErr result HasPlace }
 {
     match head(terminals) {
@@ -98,10 +98,10 @@ pub fn expected(terminals: &[Terminal], symbol: Symbol) -> Result<(Span, &[Termi
             if is_in(Class::Is(symbol), first.symbol) {
                 Ok((first.span, rest))
             } else {
-                Err(ReadError::At(Why::Unexpected, terminals))
+                Err(ParseError::At(Why::Unexpected, terminals))
             }
         }
-        None => Err(ReadError::At(Why::Unexpected, terminals)),
+        None => Err(ParseError::At(Why::Unexpected, terminals)),
     }
 }
 
@@ -124,9 +124,9 @@ pub fn taken(terminals: &[Terminal], symbol: Symbol) -> Option<(Span, &[Terminal
 
 /// A thing that is read, and the place of the first terminal after it, which has to be this symbol.
 pub fn ended<'a, T: Drop>(
-    read: Result<(T, &'a [Terminal]), ReadError<'a>>,
+    read: Result<(T, &'a [Terminal]), ParseError<'a>>,
     symbol: Symbol,
-) -> Result<((T, Span), &'a [Terminal]), ReadError<'a>>
+) -> Result<((T, Span), &'a [Terminal]), ParseError<'a>>
     ensures { IsEnded symbol read.entry result }
 {
     let (thing, rest) = read!(read);
@@ -136,8 +136,8 @@ pub fn ended<'a, T: Drop>(
 /// A thing, and what was read after it.
 pub fn both<'a, A: Drop, B: Drop>(
     first: A,
-    read: Result<(B, &'a [Terminal]), ReadError<'a>>,
-) -> Result<((A, B), &'a [Terminal]), ReadError<'a>>
+    read: Result<(B, &'a [Terminal]), ParseError<'a>>,
+) -> Result<((A, B), &'a [Terminal]), ParseError<'a>>
     ensures first { IfOk result (λ all. all.0.0 ≡ first) }
     ensures second { IfOk result (λ all. read.entry ≡ Ok (all.0.1, all.1)) }
     ensures error { IfErr result (λ error. read.entry ≡ Err error) }

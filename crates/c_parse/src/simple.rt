@@ -3,12 +3,12 @@ ghost use Rattle.std.specs.Prelude.{◌≡◌, ◌<◌, ◌-◌, true};
 ghost use Rattle.c_grammar.specs.View.{place_view};
 ghost use Rattle.c_grammar.specs.StmtView.{simple_view, stmt_view};
 ghost use Rattle.c_grammar.specs.Reading.{expr_at};
-ghost use Rattle.c_grammar.specs.StmtReading.{change_of, empty_of, plain_of, simple_of, simple_tail};
-ghost use Rattle.c_parse.specs.Gives.{Gives};
+ghost use Rattle.c_grammar.specs.StmtReading.{read_change, read_empty, read_plain, read_simple, simple_tail};
+ghost use Rattle.c_parse.specs.inside.Gives.{AgreesWithReading};
 
 use crate::call::{call, calls, right};
 use crate::expression::place;
-use crate::read::{ReadError, ended, expected, heads, one_of, read};
+use crate::read::{ParseError, ended, expected, heads, one_of, read};
 use crate::symbols::Class;
 use c_grammar::statement::{Simple, Stmt};
 use c_grammar::terminal::{Symbol, Terminal};
@@ -16,14 +16,14 @@ use c_grammar::tree::Place;
 use std::alloc::Global;
 
 /// A statement that needs a `;`, without it.
-#[tactic(auto, unfolding(c_grammar::specs::StmtReading::simple_of))]
+#[tactic(auto, unfolding(c_grammar::specs::StmtReading::read_simple))]
 pub fn simple(
     alloc: Global,
     left: u8,
     terminals: &[Terminal],
-) -> Result<(Simple, &[Terminal]), ReadError>
+) -> Result<(Simple, &[Terminal]), ParseError>
     requires { 0 < left }
-    ensures { Gives (λ x. (simple_view x.0, x.1.now)) result (simple_of (expr_at left true) (expr_at (left - 1) true) terminals.now) }
+    ensures { AgreesWithReading (λ x. (simple_view x.0, x.1.now)) result (read_simple (expr_at left true) (expr_at (left - 1) true) terminals.now) }
 {
     if calls(terminals) {
         let (call, rest) = read!(call(alloc, left, terminals));
@@ -34,14 +34,14 @@ pub fn simple(
 }
 
 /// An assignment, or `++` or `--` before or after a place.
-#[tactic(auto, unfolding(c_grammar::specs::StmtReading::change_of))]
+#[tactic(auto, unfolding(c_grammar::specs::StmtReading::read_change))]
 fn change(
     alloc: Global,
     left: u8,
     terminals: &[Terminal],
-) -> Result<(Simple, &[Terminal]), ReadError>
+) -> Result<(Simple, &[Terminal]), ParseError>
     requires { 0 < left }
-    ensures { Gives (λ x. (simple_view x.0, x.1.now)) result (change_of (expr_at left true) (expr_at (left - 1) true) terminals.now) }
+    ensures { AgreesWithReading (λ x. (simple_view x.0, x.1.now)) result (read_change (expr_at left true) (expr_at (left - 1) true) terminals.now) }
 {
     if heads(terminals, Class::Step) {
         let (operator, rest) = read!(one_of(terminals, Class::Step));
@@ -64,9 +64,9 @@ fn changed(
     left: u8,
     place: Place,
     terminals: &[Terminal],
-) -> Result<(Simple, &[Terminal]), ReadError>
+) -> Result<(Simple, &[Terminal]), ParseError>
     requires { 0 < left }
-    ensures { Gives (λ x. (simple_view x.0, x.1.now)) result
+    ensures { AgreesWithReading (λ x. (simple_view x.0, x.1.now)) result
         (simple_tail (expr_at left true) (expr_at (left - 1) true) (place_view place) terminals.now) }
 {
     if heads(terminals, Class::Step) {
@@ -96,9 +96,9 @@ pub fn plain(
     alloc: Global,
     left: u8,
     terminals: &[Terminal],
-) -> Result<(Stmt, &[Terminal]), ReadError>
+) -> Result<(Stmt, &[Terminal]), ParseError>
     requires { 0 < left }
-    ensures { Gives (λ x. (stmt_view x.0, x.1.now)) result (plain_of (expr_at left true) (expr_at (left - 1) true) terminals.now) }
+    ensures { AgreesWithReading (λ x. (stmt_view x.0, x.1.now)) result (read_plain (expr_at left true) (expr_at (left - 1) true) terminals.now) }
 {
     let ((simple, end), rest) = read!(ended(simple(alloc, left, terminals), Symbol::Semicolon));
     Ok((Stmt::Simple { simple, end }, rest))
@@ -106,8 +106,8 @@ pub fn plain(
 
 /// A statement that is a `;` alone.
 #[tactic(auto, using(c_grammar::proofs::StmtViewed::stmt_views))]
-pub fn empty(terminals: &[Terminal]) -> Result<(Stmt, &[Terminal]), ReadError>
-    ensures { Gives (λ x. (stmt_view x.0, x.1.now)) result (empty_of terminals.now) }
+pub fn empty(terminals: &[Terminal]) -> Result<(Stmt, &[Terminal]), ParseError>
+    ensures { AgreesWithReading (λ x. (stmt_view x.0, x.1.now)) result (read_empty terminals.now) }
 {
     let (at, rest) = read!(expected(terminals, Symbol::Semicolon));
     Ok((Stmt::Empty(at), rest))

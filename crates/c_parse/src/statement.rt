@@ -6,13 +6,13 @@ ghost use Rattle.c_grammar.specs.StmtView.{part_view, stmt_view};
 ghost use Rattle.c_grammar.specs.Symbols.{isnt, starts_part, starts_stmt};
 ghost use Rattle.c_grammar.specs.declared.terminal.Symbol.TheVariants as w;
 ghost use Rattle.c_grammar.specs.Reading.{expr_at, many, too_deep};
-ghost use Rattle.c_grammar.specs.StmtReading.{block_of, do_of, else_of, for_of, if_of, part_at, part_of, stmt_at, stmt_of, while_of};
-ghost use Rattle.c_parse.specs.Blocks.{block_view, braces_of};
-ghost use Rattle.c_parse.specs.Gives.{Fails, Gives};
+ghost use Rattle.c_grammar.specs.StmtReading.{if_head, read_block, read_do, read_else, read_for, read_if, part_at, read_part, stmt_at, read_stmt, read_while_loop};
+ghost use Rattle.c_parse.specs.inside.Blocks.{block_view, braces_of};
+ghost use Rattle.c_parse.specs.inside.Gives.{FailsToRead, AgreesWithReading};
 
 use crate::declaration::declared;
 use crate::jump::{break_statement, continue_statement, return_statement};
-use crate::read::{ReadError, both, boxed, ended, expected, first_of, heads, push, read, taken};
+use crate::read::{ParseError, both, boxed, ended, expected, first_of, heads, push, read, taken};
 use crate::simple::{empty, plain};
 use crate::statement_head::{TestHead, for_head, test_head, until};
 use crate::symbols::{Class, starts_part, starts_stmt};
@@ -39,8 +39,8 @@ struct Branch {
 /// A statement with `left` depths left.
 #[cycle(statement)]
 #[tactic(auto, unfolding(c_grammar::specs::StmtReading::stmt_at), using(crate::proofs::StmtLeft::stmt_more))]
-fn stmt(alloc: Global, left: u8, terminals: &[Terminal]) -> Result<(Stmt, &[Terminal]), ReadError>
-    ensures { Gives (λ x. (stmt_view x.0, x.1.now)) result (stmt_at left terminals.now) }
+fn stmt(alloc: Global, left: u8, terminals: &[Terminal]) -> Result<(Stmt, &[Terminal]), ParseError>
+    ensures { AgreesWithReading (λ x. (stmt_view x.0, x.1.now)) result (stmt_at left terminals.now) }
 {
     if left == 0 {
         return Err(deep_stmt(terminals));
@@ -54,23 +54,23 @@ fn inner(
     alloc: Global,
     left: u8,
     terminals: &[Terminal],
-) -> Result<(Box<Stmt>, &[Terminal]), ReadError>
+) -> Result<(Box<Stmt>, &[Terminal]), ParseError>
     requires { 0 < left }
-    ensures { Gives (λ x. (stmt_view x.0.value, x.1.now)) result (stmt_at (left - 1) terminals.now) }
+    ensures { AgreesWithReading (λ x. (stmt_view x.0.value, x.1.now)) result (stmt_at (left - 1) terminals.now) }
 {
     let (tree, rest) = read!(stmt(alloc, left - 1, terminals));
     let Ok(tree) = boxed(alloc, tree) else {
-        return Err(ReadError::Memory);
+        return Err(ParseError::Memory);
     };
     Ok((tree, rest))
 }
 
 #[cycle(statement)]
-#[tactic(auto, unfolding(c_grammar::specs::StmtReading::stmt_of))]
-fn body(alloc: Global, left: u8, terminals: &[Terminal]) -> Result<(Stmt, &[Terminal]), ReadError>
+#[tactic(auto, unfolding(c_grammar::specs::StmtReading::read_stmt))]
+fn body(alloc: Global, left: u8, terminals: &[Terminal]) -> Result<(Stmt, &[Terminal]), ParseError>
     requires { 0 < left }
-    ensures { Gives (λ x. (stmt_view x.0, x.1.now)) result
-        (stmt_of (expr_at left true) (expr_at (left - 1) true) (stmt_at (left - 1)) (part_at (left - 1)) terminals.now) }
+    ensures { AgreesWithReading (λ x. (stmt_view x.0, x.1.now)) result
+        (read_stmt (expr_at left true) (expr_at (left - 1) true) (stmt_at (left - 1)) (part_at (left - 1)) terminals.now) }
 {
     match first_of(terminals) {
         Some(Symbol::OpenBrace) => block_statement(alloc, left, terminals),
@@ -92,9 +92,9 @@ fn block_statement(
     alloc: Global,
     left: u8,
     terminals: &[Terminal],
-) -> Result<(Stmt, &[Terminal]), ReadError>
+) -> Result<(Stmt, &[Terminal]), ParseError>
     requires { 0 < left }
-    ensures { Gives (λ x. (stmt_view x.0, x.1.now)) result (block_of (part_at (left - 1)) terminals.now) }
+    ensures { AgreesWithReading (λ x. (stmt_view x.0, x.1.now)) result (read_block (part_at (left - 1)) terminals.now) }
 {
     let (block, rest) = read!(block(alloc, left - 1, terminals));
     let block = Stmt::Block {
@@ -107,13 +107,13 @@ fn block_statement(
 
 /// Braces and what they hold, with `left` depths left.
 #[cycle(statement)]
-#[tactic(auto, unfolding(crate::specs::Blocks::braces_of))]
+#[tactic(auto, unfolding(crate::specs::inside::Blocks::braces_of))]
 pub fn block(
     alloc: Global,
     left: u8,
     terminals: &[Terminal],
-) -> Result<(BlockParts, &[Terminal]), ReadError>
-    ensures { Gives (λ x. (block_view x.0, x.1.now)) result (braces_of (part_at left) terminals.now) }
+) -> Result<(BlockParts, &[Terminal]), ParseError>
+    ensures { AgreesWithReading (λ x. (block_view x.0, x.1.now)) result (braces_of (part_at left) terminals.now) }
 {
     let (opening, rest) = read!(expected(terminals, Symbol::OpenBrace));
     let ((parts, closing), rest) = read!(ended(parts(alloc, left, rest), Symbol::CloseBrace));
@@ -131,8 +131,8 @@ fn parts(
     alloc: Global,
     left: u8,
     terminals: &[Terminal],
-) -> Result<(Vec<Part>, &[Terminal]), ReadError>
-    ensures { Gives (λ x. (map part_view x.0.items, x.1.now)) result (many (isnt w.CloseBrace) (part_at left) terminals.now) }
+) -> Result<(Vec<Part>, &[Terminal]), ParseError>
+    ensures { AgreesWithReading (λ x. (map part_view x.0.items, x.1.now)) result (many (isnt w.CloseBrace) (part_at left) terminals.now) }
 {
     let mut found = Vec::new(alloc);
     let mut rest = terminals;
@@ -145,9 +145,9 @@ fn parts(
 }
 
 #[cycle(statement)]
-#[tactic(auto, unfolding(c_grammar::specs::StmtReading::part_with, c_grammar::specs::StmtReading::part_of), using(crate::proofs::StmtLeft::part_more, c_grammar::proofs::StmtViewed::stmt_views))]
-fn part(alloc: Global, left: u8, terminals: &[Terminal]) -> Result<(Part, &[Terminal]), ReadError>
-    ensures { Gives (λ x. (part_view x.0, x.1.now)) result (part_at left terminals.now) }
+#[tactic(auto, unfolding(c_grammar::specs::StmtReading::part_with, c_grammar::specs::StmtReading::read_part), using(crate::proofs::StmtLeft::part_more, c_grammar::proofs::StmtViewed::stmt_views))]
+fn part(alloc: Global, left: u8, terminals: &[Terminal]) -> Result<(Part, &[Terminal]), ParseError>
+    ensures { AgreesWithReading (λ x. (part_view x.0, x.1.now)) result (part_at left terminals.now) }
 {
     if left == 0 {
         return Err(deep_part(terminals));
@@ -166,9 +166,9 @@ fn if_statement(
     alloc: Global,
     left: u8,
     terminals: &[Terminal],
-) -> Result<(Stmt, &[Terminal]), ReadError>
+) -> Result<(Stmt, &[Terminal]), ParseError>
     requires { 0 < left }
-    ensures { Gives (λ x. (stmt_view x.0, x.1.now)) result (if_of (expr_at left true) (stmt_at (left - 1)) terminals.now) }
+    ensures { AgreesWithReading (λ x. (stmt_view x.0, x.1.now)) result (read_if (expr_at left true) (stmt_at (left - 1)) terminals.now) }
 {
     let (head, rest) = read!(test_head(alloc, left, Symbol::If, terminals));
     let ((head, then), rest) = read!(both(head, inner(alloc, left, rest)));
@@ -183,10 +183,10 @@ fn otherwise(
     left: u8,
     branch: Branch,
     terminals: &[Terminal],
-) -> Result<(Stmt, &[Terminal]), ReadError>
+) -> Result<(Stmt, &[Terminal]), ParseError>
     requires { 0 < left }
-    ensures { Gives (λ x. (stmt_view x.0, x.1.now)) result
-        (else_of (stmt_at (left - 1)) branch.head.keyword branch.head.opening (view branch.head.test) branch.head.closing
+    ensures { AgreesWithReading (λ x. (stmt_view x.0, x.1.now)) result
+        (read_else (stmt_at (left - 1)) (if_head branch.head.keyword branch.head.opening (view branch.head.test) branch.head.closing)
         (stmt_view branch.then.value) terminals.now) }
 {
     if let Some((else_keyword, rest)) = taken(terminals, Symbol::Else) {
@@ -221,9 +221,9 @@ fn while_statement(
     alloc: Global,
     left: u8,
     terminals: &[Terminal],
-) -> Result<(Stmt, &[Terminal]), ReadError>
+) -> Result<(Stmt, &[Terminal]), ParseError>
     requires { 0 < left }
-    ensures { Gives (λ x. (stmt_view x.0, x.1.now)) result (while_of (expr_at left true) (stmt_at (left - 1)) terminals.now) }
+    ensures { AgreesWithReading (λ x. (stmt_view x.0, x.1.now)) result (read_while_loop (expr_at left true) (stmt_at (left - 1)) terminals.now) }
 {
     let (head, rest) = read!(test_head(alloc, left, Symbol::While, terminals));
     let ((head, body), rest) = read!(both(head, inner(alloc, left, rest)));
@@ -243,9 +243,9 @@ fn do_statement(
     alloc: Global,
     left: u8,
     terminals: &[Terminal],
-) -> Result<(Stmt, &[Terminal]), ReadError>
+) -> Result<(Stmt, &[Terminal]), ParseError>
     requires { 0 < left }
-    ensures { Gives (λ x. (stmt_view x.0, x.1.now)) result (do_of (expr_at left true) (stmt_at (left - 1)) terminals.now) }
+    ensures { AgreesWithReading (λ x. (stmt_view x.0, x.1.now)) result (read_do (expr_at left true) (stmt_at (left - 1)) terminals.now) }
 {
     let (keyword, rest) = read!(expected(terminals, Symbol::Do));
     let (body, rest) = read!(inner(alloc, left, rest));
@@ -268,10 +268,10 @@ fn for_statement(
     alloc: Global,
     left: u8,
     terminals: &[Terminal],
-) -> Result<(Stmt, &[Terminal]), ReadError>
+) -> Result<(Stmt, &[Terminal]), ParseError>
     requires { 0 < left }
-    ensures { Gives (λ x. (stmt_view x.0, x.1.now)) result
-        (for_of (expr_at left true) (expr_at (left - 1) true) (stmt_at (left - 1)) terminals.now) }
+    ensures { AgreesWithReading (λ x. (stmt_view x.0, x.1.now)) result
+        (read_for (expr_at left true) (expr_at (left - 1) true) (stmt_at (left - 1)) terminals.now) }
 {
     let (head, rest) = read!(for_head(alloc, left, terminals));
     let ((head, body), rest) = read!(both(head, inner(alloc, left, rest)));
@@ -291,34 +291,34 @@ fn for_statement(
 
 /// A statement that is too deep.
 #[tactic(auto, unfolding(c_grammar::specs::Reading::too_deep))]
-fn deep_stmt(terminals: &[Terminal]) -> ReadError
-    ensures { Fails result (too_deep {A = t.Stmt} starts_stmt terminals.now) }
+fn deep_stmt(terminals: &[Terminal]) -> ParseError
+    ensures { FailsToRead result (too_deep {A = t.Stmt} starts_stmt terminals.now) }
 {
     match first_of(terminals) {
         Some(symbol) => {
             if starts_stmt(symbol) {
-                ReadError::At(Why::TooDeep, terminals)
+                ParseError::At(Why::TooDeep, terminals)
             } else {
-                ReadError::At(Why::Unexpected, terminals)
+                ParseError::At(Why::Unexpected, terminals)
             }
         }
-        None => ReadError::At(Why::Unexpected, terminals),
+        None => ParseError::At(Why::Unexpected, terminals),
     }
 }
 
 /// What is too deep in a block.
 #[tactic(auto, unfolding(c_grammar::specs::Reading::too_deep))]
-fn deep_part(terminals: &[Terminal]) -> ReadError
-    ensures { Fails result (too_deep {A = t.Part} starts_part terminals.now) }
+fn deep_part(terminals: &[Terminal]) -> ParseError
+    ensures { FailsToRead result (too_deep {A = t.Part} starts_part terminals.now) }
 {
     match first_of(terminals) {
         Some(symbol) => {
             if starts_part(symbol) {
-                ReadError::At(Why::TooDeep, terminals)
+                ParseError::At(Why::TooDeep, terminals)
             } else {
-                ReadError::At(Why::Unexpected, terminals)
+                ParseError::At(Why::Unexpected, terminals)
             }
         }
-        None => ReadError::At(Why::Unexpected, terminals),
+        None => ParseError::At(Why::Unexpected, terminals),
     }
 }

@@ -5,13 +5,13 @@ ghost use Rattle.c_grammar.specs.StmtView.{simple_view, start_view};
 ghost use Rattle.c_grammar.specs.Symbols.{isnt};
 ghost use Rattle.c_grammar.specs.declared.terminal.Symbol.TheVariants as w;
 ghost use Rattle.c_grammar.specs.Reading.{expr_at, maybe};
-ghost use Rattle.c_grammar.specs.StmtReading.{simple_of, start_of};
-ghost use Rattle.c_parse.specs.Gives.{Gives};
-ghost use Rattle.c_parse.specs.StatementHeads.{ended_of, for_head_of, for_head_view, test_head_of, test_head_view};
+ghost use Rattle.c_grammar.specs.StmtReading.{read_simple, read_for_start};
+ghost use Rattle.c_parse.specs.inside.Gives.{AgreesWithReading};
+ghost use Rattle.c_parse.specs.inside.StatementHeads.{ended_of, for_head_of, for_head_view, test_head_of, test_head_view};
 
 use crate::declaration::declaration;
 use crate::expression::expr;
-use crate::read::{ReadError, both, ended, expected, heads, read};
+use crate::read::{ParseError, both, ended, expected, heads, read};
 use crate::simple::simple;
 use crate::symbols::Class;
 use c_grammar::statement::{ForStart, Simple};
@@ -39,14 +39,14 @@ pub struct ForHead {
 }
 
 /// A keyword and the test in parentheses after it.
-#[tactic(auto, unfolding(crate::specs::StatementHeads::test_head_of))]
+#[tactic(auto, unfolding(crate::specs::inside::StatementHeads::test_head_of))]
 pub fn test_head(
     alloc: Global,
     left: u8,
     symbol: Symbol,
     terminals: &[Terminal],
-) -> Result<(TestHead, &[Terminal]), ReadError>
-    ensures { Gives (λ x. (test_head_view x.0, x.1.now)) result (test_head_of (expr_at left true) symbol terminals.now) }
+) -> Result<(TestHead, &[Terminal]), ParseError>
+    ensures { AgreesWithReading (λ x. (test_head_view x.0, x.1.now)) result (test_head_of (expr_at left true) symbol terminals.now) }
 {
     let ((keyword, opening), rest) = read!(ended(expected(terminals, symbol), Symbol::OpenParen));
     let ((test, closing), rest) = read!(ended(expr(alloc, left, true, rest), Symbol::CloseParen));
@@ -60,13 +60,13 @@ pub fn test_head(
 }
 
 /// What is after the statement of a `do`.
-#[tactic(auto, unfolding(crate::specs::StatementHeads::ended_of))]
+#[tactic(auto, unfolding(crate::specs::inside::StatementHeads::ended_of))]
 pub fn until(
     alloc: Global,
     left: u8,
     terminals: &[Terminal],
-) -> Result<((TestHead, Span), &[Terminal]), ReadError>
-    ensures { Gives (λ x. ((test_head_view x.0.0, x.0.1), x.1.now)) result
+) -> Result<((TestHead, Span), &[Terminal]), ParseError>
+    ensures { AgreesWithReading (λ x. ((test_head_view x.0.0, x.0.1), x.1.now)) result
         (ended_of (test_head_of (expr_at left true) w.While) w.Semicolon terminals.now) }
 {
     ended(
@@ -76,14 +76,14 @@ pub fn until(
 }
 
 /// What is before the statement of a `for`.
-#[tactic(auto, unfolding(crate::specs::StatementHeads::for_head_of, crate::specs::StatementHeads::ended_of))]
+#[tactic(auto, unfolding(crate::specs::inside::StatementHeads::for_head_of, crate::specs::inside::StatementHeads::ended_of))]
 pub fn for_head(
     alloc: Global,
     left: u8,
     terminals: &[Terminal],
-) -> Result<(ForHead, &[Terminal]), ReadError>
+) -> Result<(ForHead, &[Terminal]), ParseError>
     requires { 0 < left }
-    ensures { Gives (λ x. (for_head_view x.0, x.1.now)) result (for_head_of (expr_at left true) (expr_at (left - 1) true) terminals.now) }
+    ensures { AgreesWithReading (λ x. (for_head_view x.0, x.1.now)) result (for_head_of (expr_at left true) (expr_at (left - 1) true) terminals.now) }
 {
     let ((keyword, opening), rest) = read!(ended(
         expected(terminals, Symbol::For),
@@ -105,14 +105,14 @@ pub fn for_head(
 }
 
 /// How a `for` begins.
-#[tactic(auto, unfolding(c_grammar::specs::StmtReading::start_of))]
+#[tactic(auto, unfolding(c_grammar::specs::StmtReading::read_for_start))]
 fn for_start(
     alloc: Global,
     left: u8,
     terminals: &[Terminal],
-) -> Result<(ForStart, &[Terminal]), ReadError>
+) -> Result<(ForStart, &[Terminal]), ParseError>
     requires { 0 < left }
-    ensures { Gives (λ x. (start_view x.0, x.1.now)) result (start_of (expr_at left true) (expr_at (left - 1) true) terminals.now) }
+    ensures { AgreesWithReading (λ x. (start_view x.0, x.1.now)) result (read_for_start (expr_at left true) (expr_at (left - 1) true) terminals.now) }
 {
     if heads(terminals, Class::Is(Symbol::Semicolon)) {
         Ok((ForStart::Nothing, terminals))
@@ -130,9 +130,9 @@ fn for_test(
     alloc: Global,
     left: u8,
     terminals: &[Terminal],
-) -> Result<(Option<Expr>, &[Terminal]), ReadError>
+) -> Result<(Option<Expr>, &[Terminal]), ParseError>
     requires { 0 < left }
-    ensures { Gives (λ x. (option_map view x.0, x.1.now)) result (maybe (isnt w.Semicolon) (expr_at left true) terminals.now) }
+    ensures { AgreesWithReading (λ x. (option_map view x.0, x.1.now)) result (maybe (isnt w.Semicolon) (expr_at left true) terminals.now) }
 {
     if heads(terminals, Class::Isnt(Symbol::Semicolon)) {
         let (test, rest) = read!(expr(alloc, left, true, terminals));
@@ -147,10 +147,10 @@ fn for_step(
     alloc: Global,
     left: u8,
     terminals: &[Terminal],
-) -> Result<(Option<Simple>, &[Terminal]), ReadError>
+) -> Result<(Option<Simple>, &[Terminal]), ParseError>
     requires { 0 < left }
-    ensures { Gives (λ x. (option_map simple_view x.0, x.1.now)) result
-        (maybe (isnt w.CloseParen) (simple_of (expr_at left true) (expr_at (left - 1) true)) terminals.now) }
+    ensures { AgreesWithReading (λ x. (option_map simple_view x.0, x.1.now)) result
+        (maybe (isnt w.CloseParen) (read_simple (expr_at left true) (expr_at (left - 1) true)) terminals.now) }
 {
     if heads(terminals, Class::Isnt(Symbol::CloseParen)) {
         let (step, rest) = read!(simple(alloc, left, terminals));

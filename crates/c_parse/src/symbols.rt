@@ -1,7 +1,7 @@
 //! What the symbols of the grammar are.
 ghost use Rattle.std.specs.Prelude.{◌≡◌};
-ghost use Rattle.c_grammar.specs.Symbols.{code_of, is, is_assign, is_kind, is_result, is_sign, is_step, level_of, starts_expr, starts_part, starts_stmt};
-ghost use Rattle.c_parse.specs.Classes.{is_in};
+ghost use Rattle.c_grammar.specs.Symbols.{symbol_code, is, is_assign, is_kind, is_result, is_sign, is_step, level_of, starts_expr, starts_part, starts_stmt};
+ghost use Rattle.c_parse.specs.inside.Classes.{is_in};
 
 use c_grammar::limits::CONDITIONAL_LEVEL;
 use c_grammar::terminal::Symbol;
@@ -41,7 +41,7 @@ pub fn is_in(class: Class, symbol: Symbol) -> bool
 
 /// The symbol's place in the list of symbols.
 fn code(symbol: Symbol) -> u8
-    ensures { result ≡ code_of symbol }
+    ensures { result ≡ symbol_code symbol }
 {
     symbol as u8
 }

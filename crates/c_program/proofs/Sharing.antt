@@ -2,19 +2,19 @@
 -- thirty expressions, so each type has its lemma, over those of the types that it holds. Above, list the lemma beside `sendable`.
 use denote.Param.Send.{IsSync, sendable}
 use Rattle.std.proofs.Crossing.{crosses}
-use Rattle.c_program.proofs.expr.Expr.TheLaws.TheKnot as expr_knot
+use Rattle.c_program.proofs.expr.TypedExpr.TheLaws.TheKnot as expr_knot
 use Rattle.c_program.proofs.expr.Field.TheSendSync as status_field
-use Rattle.c_program.proofs.statement.Part.TheLaws.TheKnot as part_knot
+use Rattle.c_program.proofs.statement.TypedPart.TheLaws.TheKnot as part_knot
 use Rattle.c_names.proofs.operator.UnaryOperator.TheSendSync as sign
 use Rattle.c_names.proofs.operator.Operator.TheSendSync as operator
 use Rattle.c_names.proofs.kind.VariableKind.TheSendSync as kind
 use Rattle.c_names.proofs.format.FormatPiece.TheSendSync as piece
-use Rattle.c_program.proofs.program.Parameter.TheSendSync as parameter
+use Rattle.c_program.proofs.program.TypedParameter.TheSendSync as parameter
 use Rattle.c_program.specs.contracts.expr.FunctionCall as FunctionCall
-use Rattle.c_program.specs.contracts.expr.Expr as Expr
-use Rattle.c_program.specs.contracts.expr.Place as Place
+use Rattle.c_program.specs.contracts.expr.TypedExpr as TypedExpr
+use Rattle.c_program.specs.contracts.expr.TypedPlace as TypedPlace
 use Rattle.c_program.specs.contracts.expr.Reference as Reference
-use Rattle.c_program.specs.contracts.expr.Right as Right
+use Rattle.c_program.specs.contracts.expr.TypedRight as TypedRight
 use Rattle.c_program.specs.contracts.mpi.Buffer as Buffer
 use Rattle.c_program.specs.contracts.mpi.CollectiveCall as CollectiveCall
 use Rattle.c_program.specs.contracts.mpi.CommunicatorCall as CommunicatorCall
@@ -28,17 +28,17 @@ use Rattle.c_program.specs.contracts.mpi.Reduction as Reduction
 use Rattle.c_program.specs.contracts.mpi.SomeRequests as SomeRequests
 use Rattle.c_program.specs.contracts.program.CProgram as CProgram
 use Rattle.c_program.specs.contracts.program.Function as Function
-use Rattle.c_program.specs.contracts.statement.Declaration as Declaration
-use Rattle.c_program.specs.contracts.statement.Part as Part
-use Rattle.c_program.specs.contracts.statement.Simple as Simple
-use Rattle.c_program.specs.contracts.statement.Stmt as Stmt
+use Rattle.c_program.specs.contracts.statement.TypedDeclaration as TypedDeclaration
+use Rattle.c_program.specs.contracts.statement.TypedPart as TypedPart
+use Rattle.c_program.specs.contracts.statement.TypedSimple as TypedSimple
+use Rattle.c_program.specs.contracts.statement.TypedStmt as TypedStmt
 
 -- ---- expressions
 
-pub expr_field : IsSync (Expr.the_field).row
+pub expr_field : IsSync (TypedExpr.the_field).row
 expr_field = search (sign.the_field_sync, operator.the_field_sync, status_field.the_field_sync, crosses, expr_knot.crosses, sendable) depth 60 fits 20000
 
-pub place_field : IsSync (Place.the_field).row
+pub place_field : IsSync (TypedPlace.the_field).row
 place_field = search (sign.the_field_sync, operator.the_field_sync, status_field.the_field_sync, crosses, expr_knot.crosses, sendable) depth 60 fits 20000
 
 pub reference_field : IsSync (Reference.the_field).row
@@ -47,7 +47,7 @@ reference_field = search (expr_field, sendable) depth 60
 pub call_field : IsSync (FunctionCall.the_field).row
 call_field = search (expr_field, reference_field, crosses, sendable) depth 60
 
-pub right_field : IsSync (Right.the_field).row
+pub right_field : IsSync (TypedRight.the_field).row
 right_field = search (expr_field, call_field, sendable) depth 60
 
 -- ---- calls of MPI functions
@@ -87,16 +87,16 @@ mpi_field = search (message_field, completion_field, probe_field, collective_fie
 
 -- ---- statements and programs
 
-pub simple_field : IsSync (Simple.the_field).row
+pub simple_field : IsSync (TypedSimple.the_field).row
 simple_field = search (mpi_field, call_field, right_field, place_field, expr_field, operator.the_field_sync, piece.the_sync, crosses, sendable) depth 60
 
-pub declaration_field : IsSync (Declaration.the_field).row
+pub declaration_field : IsSync (TypedDeclaration.the_field).row
 declaration_field = search (right_field, expr_field, kind.the_field_sync, crosses, sendable) depth 60
 
-pub part_field : IsSync (Part.the_field).row
+pub part_field : IsSync (TypedPart.the_field).row
 part_field = search (simple_field, declaration_field, right_field, expr_field, crosses, part_knot.crosses, sendable) depth 60 fits 20000
 
-pub stmt_field : IsSync (Stmt.the_field).row
+pub stmt_field : IsSync (TypedStmt.the_field).row
 stmt_field = search (simple_field, declaration_field, right_field, expr_field, crosses, part_knot.crosses, sendable) depth 60 fits 20000
 
 pub function_field : IsSync (Function.the_field).row

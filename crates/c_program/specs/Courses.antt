@@ -28,14 +28,14 @@ abbrev pub ended : State → Course
 ended s = asks_last End s
 
 -- the course after a reply
-abbrev pub behind : Course → Reply → Course
-behind (Over s) reply = Over s
-behind (Asks s call go) reply = if ends (call, reply) then Over s else go reply
+abbrev pub after_one_reply : Course → Reply → Course
+after_one_reply (Over s) reply = Over s
+after_one_reply (Asks s call go) reply = if ends (call, reply) then Over s else go reply
 
 -- the course after some replies
-abbrev pub after : Course → List Reply → Course
-after course [] = course
-after course (reply ∷ replies) = after (behind course reply) replies
+abbrev pub after_replies : Course → List Reply → Course
+after_replies course [] = course
+after_replies course (reply ∷ replies) = after_replies (after_one_reply course reply) replies
 
 -- the call that a course makes next, if any
 abbrev pub call_in : Course → Option Call

@@ -1,6 +1,6 @@
 -- What follows on the effect of an MPI call: its primitive calls, and what their replies change.
 -- (MPI 3.1, Point-to-Point Communication, "Communication Completion" and "Probe"; Collective Communication.)
-use Rattle.std.specs.Prelude.{◌+◌, ◌*◌, ◌++◌, ◌==◌, ◌||◌, ℕ, suc, ℤ, pos, negsuc, Bool, true, false, List, [], ◌∷◌, Option, Some, None, if◌then◌else◌, nat_lt, nat_le, length, map, slice_get}
+use Rattle.std.specs.Prelude.{◌+◌, ◌*◌, ◌++◌, ◌==◌, ◌||◌, ℕ, suc, ℤ, pos, negsuc, Bool, List, [], ◌∷◌, Option, Some, None, if◌then◌else◌, nat_lt, nat_le, length, map, slice_get}
 use Rattle.mpi_call.specs.declared.call.Call.{Call}
 use Rattle.mpi_call.specs.declared.call.Call.TheVariants.{Send, Post, Enter, Take, Peek, Abort}
 use Rattle.mpi_call.specs.declared.call.Fault.TheVariants.{OutOfBounds}
@@ -12,12 +12,14 @@ use Rattle.mpi_call.specs.declared.reply.Got.TheVariants.{Nothing as GotNothing,
 use Rattle.mpi_call.specs.declared.reply.Item.{Item}
 use Rattle.mpi_call.specs.declared.reply.Reply.{Reply}
 use Rattle.mpi_call.specs.declared.reply.Reply.TheVariants.{Took, Peeked}
-use Rattle.c_program.specs.declared.effect.Answer.{Answer}
+use Rattle.run_model.specs.Allowed.{takes_all}
+use Rattle.run_model.specs.Communicators.{or_none}
+use Rattle.c_program.specs.declared.effect.AnswerCells.{AnswerCells}
 use Rattle.c_program.specs.declared.effect.Collective.{Collective}
 use Rattle.c_program.specs.declared.effect.Effect.{Effect}
 use Rattle.c_program.specs.declared.effect.Effect.TheVariants.{Nothing, Sets, Starts, Sends, Receives, Completes, Probes, Joins, Aborts}
-use Rattle.c_program.specs.declared.effect.Entered.{Entered}
-use Rattle.c_program.specs.declared.effect.Entered.TheVariants.{Nothing as EntersNothing, Cells as EntersCells, Pair}
+use Rattle.c_program.specs.declared.effect.EnterInput.{EnterInput}
+use Rattle.c_program.specs.declared.effect.EnterInput.TheVariants.{Nothing as EntersNothing, Cells as EntersCells, Pair}
 use Rattle.c_program.specs.declared.effect.Into.{Into}
 use Rattle.c_program.specs.declared.effect.Into.TheVariants.{Nowhere, Cells as IntoCells, Handle}
 use Rattle.c_program.specs.declared.effect.Message.{Message}
@@ -26,10 +28,10 @@ use Rattle.c_program.specs.declared.effect.Receive.{Receive}
 use Rattle.c_program.specs.declared.effect.Start.{Start}
 use Rattle.c_program.specs.declared.effect.Start.TheVariants.{Send as StartSend, Receive as StartReceive}
 use Rattle.c_program.specs.Courses.{Course, Asks, asks_last, trapped}
-use Rattle.c_program.specs.Effects.{rank_in}
+use Rattle.c_program.specs.Effects.{rank_among}
 use Rattle.c_program.specs.Cells.{Cells}
 use Rattle.c_program.specs.declared.state.MadeCommunicator.{MadeCommunicator}
-use Rattle.c_program.specs.State.{State, any_source, ints_in, members_of, no_cells, null, put, put_all, put_some, undefined}
+use Rattle.c_program.specs.State.{State, any_source, ints_in_cells, members_known, no_cells, null, put, put_all, put_some, undefined}
 use Rattle.c_program.specs.declared.state.Begun.{Begun}
 
 -- goes on from a state
@@ -40,7 +42,7 @@ Onward = State → Course
 
 -- the call of a send, with its ints as they are now
 abbrev pub send_call : Message → State → Call
-send_call m s = Send m.comm m.dest m.tag (ints_in m.ints s) m.sync
+send_call m s = Send m.comm m.dest m.tag (ints_in_cells m.ints s) m.sync
 
 -- the call of a receive
 abbrev pub post_call : Receive → Call
@@ -60,9 +62,9 @@ abbrev pub receiving : Receive → Begun
 receiving r = record { comm = r.comm; buffer = r.buffer }
 
 -- what is kept of a start
-abbrev pub start_of : Start → Begun
-start_of (StartSend m) = sent m.comm
-start_of (StartReceive r) = receiving r
+abbrev pub begun_by : Start → Begun
+begun_by (StartSend m) = sent m.comm
+begun_by (StartReceive r) = receiving r
 
 -- one start more; its number is how many there were
 abbrev pub begun : Begun → State → State
@@ -87,31 +89,26 @@ put_empty at s = put_status at any_source null (pos 0) s
 abbrev pub put_nothing : Option ℕ → State → State
 put_nothing at s = put_status at null null (pos 0) s
 
--- the members, or none
-abbrev pub or_none : Option (List ℕ) → List ℕ
-or_none None = []
-or_none (Some members) = members
-
 -- the sender as a rank of the communicator
 abbrev pub source_in : ℕ → ℕ → ℕ → State → ℤ
-source_in n comm source s = rank_in (or_none (members_of n s comm)) source
+source_in n comm source s = rank_among (or_none (members_known n s comm)) source
 
 -- the start of a number
-abbrev pub start_at : ℕ → State → Begun
-start_at number s = or_sent (slice_get s.starts number)
+abbrev pub begun_at : ℕ → State → Begun
+begun_at number s = or_sent (slice_get s.starts number)
   where
     or_sent : Option Begun → Begun
     or_sent None = sent 0
     or_sent (Some start) = start
 
 -- cells that the ints of a message go to stand: only those that are reached count
-abbrev pub stands : Cells → List ℤ → State → Bool
-stands buffer ints s = (length ints == 0) || nat_le (buffer.from + length ints) (length s.cells)
+abbrev pub has_cells_for : Cells → List ℤ → State → Bool
+has_cells_for buffer ints s = (length ints == 0) || nat_le (buffer.from + length ints) (length s.cells)
 
 -- a completed start: its message, and its status; nothing where a cell of its message no longer stands
 abbrev pub completed : ℕ → Begun → Option ℕ → Got → State → Option State
 completed n start status (GotMessage source number tag ints) s =
-    if stands start.buffer ints s
+    if has_cells_for start.buffer ints s
     then Some (put_status status (source_in n start.comm source s) (pos tag) (pos (length ints)) (put_all start.buffer.from ints s))
     else None
 completed n start status GotNothing s = Some (put_nothing status s)
@@ -128,13 +125,13 @@ made_by_all [] = []
 made_by_all (item ∷ items) = made_by item.got ++ made_by_all items
 
 -- a state that has learned what items tell of
-abbrev pub learned : List Item → State → State
-learned items s = record s { made = s.made ++ made_by_all items }
+abbrev pub with_communicators : List Item → State → State
+with_communicators items s = record s { made = s.made ++ made_by_all items }
 
 -- the items of a reply
-abbrev pub items_of : Reply → List Item
-items_of (Took items) = items
-items_of reply = []
+abbrev pub reply_items : Reply → List Item
+reply_items (Took items) = items
+reply_items reply = []
 
 -- ---- completion calls
 
@@ -155,7 +152,7 @@ active_from starts place (handle ∷ handles) = active_at starts place handle ++
 
 -- the starts of handles
 abbrev pub active_in : Cells → State → List Active
-active_in requests s = active_from (length s.starts) 0 (ints_in requests s)
+active_in requests s = active_from (length s.starts) 0 (ints_in_cells requests s)
 
 -- the status at a place of an array of statuses
 abbrev pub status_at : Option Cells → ℕ → Option ℕ
@@ -170,12 +167,6 @@ status_place AnyOne place number = 0
 status_place TestAny place number = 0
 status_place mode place number = number
 
--- whether each handle has a status of its own
-abbrev pub takes_all : TakeMode → Bool
-takes_all All = true
-takes_all TestAll = true
-takes_all mode = false
-
 -- the handles that aren't one get the empty status, where each handle has a status
 abbrev pub put_empties : Option Cells → ℕ → ℕ → List ℤ → State → State
 put_empties statuses starts place [] s = s
@@ -187,9 +178,9 @@ put_empties statuses starts place (handle ∷ handles) s =
     by_place (one ∷ more) = s
 
 -- the empty statuses of a call that has one for each handle
-abbrev pub empties : Cells → TakeMode → Answer → State → State
+abbrev pub empties : Cells → TakeMode → AnswerCells → State → State
 empties requests mode answer s =
-    if takes_all mode then put_empties answer.statuses (length s.starts) 0 (ints_in requests s) s else s
+    if takes_all mode then put_empties answer.statuses (length s.starts) 0 (ints_in_cells requests s) s else s
 
 -- the start at an index
 abbrev pub active_or_none : List Active → ℕ → Active
@@ -204,23 +195,34 @@ abbrev pub or_trap : Option State → State → Onward → Course
 or_trap None s go = trapped OutOfBounds s
 or_trap (Some t) s go = go t
 
+-- a completion call: how many ranks there are, where the handles stand, which starts it takes, and what it answers besides
+pub record Completing : Type 0 where
+  pub ranks : ℕ
+  pub requests : Cells
+  pub mode : TakeMode
+  pub answer : AnswerCells
+
+-- the completion call with these parts
+abbrev pub completing_of : ℕ → Cells → TakeMode → AnswerCells → Completing
+completing_of n requests mode answer = record { ranks = n; requests = requests; mode = mode; answer = answer }
+
 -- an item's message and status
-abbrev pub item_completed : ℕ → TakeMode → Answer → Active → ℕ → Got → State → Option State
-item_completed n mode answer one number got s =
-    completed n (start_at one.start s) (status_at answer.statuses (status_place mode one.place number)) got s
+abbrev pub item_completed : Completing → Active → ℕ → Got → State → Option State
+item_completed call one number got s =
+    completed call.ranks (begun_at one.start s) (status_at call.answer.statuses (status_place call.mode one.place number)) got s
 
 -- the items in order, the first one's number being `number`: each one's message and status, and its handle gets null. A
 -- message whose cells no longer stand traps, with its item as it was.
-abbrev pub put_items : ℕ → Cells → TakeMode → Answer → List Active → ℕ → List Item → State → Onward → Course
-put_items n requests mode answer active number [] s go = go s
-put_items n requests mode answer active number (item ∷ items) s go =
-    or_trap (item_completed n mode answer (active_or_none active item.index) number item.got s) s (λ t.
-    put_items n requests mode answer active (suc number) items (put (requests.from + (active_or_none active item.index).place) null t) go)
+abbrev pub put_items : Completing → List Active → ℕ → List Item → State → Onward → Course
+put_items call active number [] s go = go s
+put_items call active number (item ∷ items) s go =
+    or_trap (item_completed call (active_or_none active item.index) number item.got s) s (λ t.
+    put_items call active (suc number) items (put (call.requests.from + (active_or_none active item.index).place) null t) go)
 
 -- the places of the items' handles
-abbrev pub places_of : List Active → List Item → List ℤ
-places_of active [] = []
-places_of active (item ∷ items) = pos (active_or_none active item.index).place ∷ places_of active items
+abbrev pub handle_places : List Active → List Item → List ℤ
+handle_places active [] = []
+handle_places active (item ∷ items) = pos (active_or_none active item.index).place ∷ handle_places active items
 
 -- places go into cells, where they are asked for
 abbrev pub put_places : Option Cells → List ℤ → State → State
@@ -235,37 +237,37 @@ first_place (place ∷ places) = place
 -- what was asked for besides: whether it is complete, which handle's start was, how many were and which. Where a function
 -- answers two of these they are set in the order in which it names them, so that the second one stays where both are one
 -- variable: `MPI_Testany` the index and then the flag, `MPI_Testsome` the count and then the indices.
-abbrev pub answered : Answer → ℤ → ℤ → ℤ → List ℤ → State → State
-answered answer flag index outcount places s =
+abbrev pub with_answer : AnswerCells → ℤ → ℤ → ℤ → List ℤ → State → State
+with_answer answer flag index outcount places s =
     put_places answer.indices places (put_some answer.outcount outcount (put_some answer.flag flag (put_some answer.index index s)))
 
 -- the only status is that of no handle
-abbrev pub put_only_empty : TakeMode → Answer → State → State
+abbrev pub put_only_empty : TakeMode → AnswerCells → State → State
 put_only_empty AnyOne answer s = put_empty (status_at answer.statuses 0) s
 put_only_empty TestAny answer s = put_empty (status_at answer.statuses 0) s
 put_only_empty mode answer s = s
 
 -- without an active handle nothing is asked
-abbrev pub none_active : Cells → TakeMode → Answer → State → State
+abbrev pub none_active : Cells → TakeMode → AnswerCells → State → State
 none_active requests mode answer s =
-    answered answer (pos 1) undefined undefined [] (put_only_empty mode answer (empties requests mode answer s))
+    with_answer answer (pos 1) undefined undefined [] (put_only_empty mode answer (empties requests mode answer s))
 
 -- what follows on the reply to a completion: what was completed, or that nothing was
-abbrev pub after_take : ℕ → Cells → TakeMode → Answer → List Active → Reply → State → Onward → Course
-after_take n requests mode answer active (Took items) s go =
-    put_items n requests mode answer active 0 items (empties requests mode answer (learned items s)) (λ s.
-    go (answered answer (pos 1) (first_place (places_of active items)) (pos (length items)) (places_of active items) s))
-after_take n requests mode answer active reply s go = go (answered answer (pos 0) undefined (pos 0) [] s)
+abbrev pub after_take : Completing → List Active → Reply → State → Onward → Course
+after_take call active (Took items) s go =
+    put_items call active 0 items (empties call.requests call.mode call.answer (with_communicators items s)) (λ s.
+    go (with_answer call.answer (pos 1) (first_place (handle_places active items)) (pos (length items)) (handle_places active items) s))
+after_take call active reply s go = go (with_answer call.answer (pos 0) undefined (pos 0) [] s)
 
 -- the numbers of starts
 abbrev pub starts_in : List Active → List ℕ
 starts_in active = map (λ (one : Active). one.start) active
 
 -- a completion of starts: without any it makes no call
-abbrev pub completing : ℕ → Cells → TakeMode → Answer → List Active → State → Onward → Course
-completing n requests mode answer [] s go = go (none_active requests mode answer s)
-completing n requests mode answer (one ∷ more) s go =
-    Asks s (Take (starts_in (one ∷ more)) mode) (λ reply. after_take n requests mode answer (one ∷ more) reply s go)
+abbrev pub completing : Completing → List Active → State → Onward → Course
+completing call [] s go = go (none_active call.requests call.mode call.answer s)
+completing call (one ∷ more) s go =
+    Asks s (Take (starts_in (one ∷ more)) call.mode) (λ reply. after_take call (one ∷ more) reply s go)
 
 -- ---- one start until it is complete
 
@@ -286,7 +288,7 @@ put_message n start status (Some got) s go = or_trap (completed n start status g
 -- completes a receive
 abbrev pub taking_message : ℕ → Receive → ℕ → Option ℕ → State → Onward → Course
 taking_message n receive number status s go =
-    Asks s (take_one number) (λ reply. put_message n (receiving receive) status (first_got (items_of reply)) (learned (items_of reply) s) go)
+    Asks s (take_one number) (λ reply. put_message n (receiving receive) status (first_got (reply_items reply)) (with_communicators (reply_items reply) s) go)
 
 -- the receive starts first, then the send
 abbrev pub sending : Option Message → State → Onward → Course
@@ -302,12 +304,12 @@ put_result into got s = s
 -- takes a start of which at most a result is wanted: a collective, or a send
 abbrev pub taking_result : Into → ℕ → State → Onward → Course
 taking_result into number s go =
-    Asks s (take_one number) (λ reply. go (put_result into (first_got (items_of reply)) (learned (items_of reply) s)))
+    Asks s (take_one number) (λ reply. go (put_result into (first_got (reply_items reply)) (with_communicators (reply_items reply) s)))
 
 -- the ints that a member enters
-abbrev pub entered_ints : Entered → State → List ℤ
+abbrev pub entered_ints : EnterInput → State → List ℤ
 entered_ints EntersNothing s = []
-entered_ints (EntersCells cells) s = ints_in cells s
+entered_ints (EntersCells cells) s = ints_in_cells cells s
 entered_ints (Pair colour key) s = colour ∷ (key ∷ [])
 
 -- the call of a collective
@@ -329,14 +331,14 @@ abbrev pub perform : Rank → Effect → State → Onward → Course
 perform rank Nothing s go = go s
 perform rank (Sets cell value) s go = go (put cell value s)
 perform rank (Starts start request) s go =
-    Asks s (start_call start s) (λ reply. go (put_some request (pos (number_of_next s)) (begun (start_of start) s)))
+    Asks s (start_call start s) (λ reply. go (put_some request (pos (number_of_next s)) (begun (begun_by start) s)))
 perform rank (Sends m) s go =
     Asks s (send_call m s) (λ reply. taking_result Nowhere (number_of_next s) (begun (sent m.comm) s) go)
 perform rank (Receives receive send status) s go =
     Asks s (post_call receive) (λ reply.
     sending send (begun (receiving receive) s) (λ t.
     taking_message rank.ranks receive (number_of_next s) status t go))
-perform rank (Completes requests mode answer) s go = completing rank.ranks requests mode answer (active_in requests s) s go
+perform rank (Completes requests mode answer) s go = completing (completing_of rank.ranks requests mode answer) (active_in requests s) s go
 perform rank (Probes comm Null tag waits flag status) s go = go (put_some flag (pos 1) (put_nothing status s))
 perform rank (Probes comm source tag waits flag status) s go =
     Asks s (Peek comm source tag waits) (λ reply. go (probed rank.ranks comm flag status reply s))

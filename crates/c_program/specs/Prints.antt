@@ -30,15 +30,15 @@ size_text Decimal (negsuc n) = decimal_text (suc n)
 size_text Hexadecimal v = hexadecimal_text (cast_unsigned w32 v)
 
 -- what is missing to the width
-abbrev pub filled : Filling → ℕ → List ℕ → List ℕ → List ℕ
-filled Blanks missing sign size = replicate missing 32 ++ (sign ++ size)
-filled Left missing sign size = (sign ++ size) ++ replicate missing 32
-filled Zeros missing sign size = sign ++ (replicate missing 48 ++ size)
+abbrev pub padded : Filling → ℕ → List ℕ → List ℕ → List ℕ
+padded Blanks missing sign size = replicate missing 32 ++ (sign ++ size)
+padded Left missing sign size = (sign ++ size) ++ replicate missing 32
+padded Zeros missing sign size = sign ++ (replicate missing 48 ++ size)
 
 -- an int in its width
 abbrev pub int_text : Filling → ℕ → Base → ℤ → List ℕ
 int_text filling width base v =
-    filled filling (width - length (sign_text base v ++ size_text base v)) (sign_text base v) (size_text base v)
+    padded filling (width - length (sign_text base v ++ size_text base v)) (sign_text base v) (size_text base v)
 
 -- a format and its ints
 abbrev pub text_of : List FormatPiece → List ℤ → List ℕ

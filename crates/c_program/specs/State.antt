@@ -85,8 +85,8 @@ values_from cell zero s = []
 values_from cell (suc n) s = cell_at s cell ∷ values_from (cell + 1) n s
 
 -- the ints, or the handles, in these cells
-abbrev pub ints_in : Cells → State → List ℤ
-ints_in cells s = values_from cells.from cells.length s
+abbrev pub ints_in_cells : Cells → State → List ℤ
+ints_in_cells cells s = values_from cells.from cells.length s
 
 -- ---- scopes
 
@@ -106,5 +106,5 @@ members_among [] comm = None
 members_among (known ∷ others) comm = if known.comm == comm then Some known.members else members_among others comm
 
 -- the members of a communicator: all of the n ranks for 0, else those of the first one made with this number
-abbrev pub members_of : ℕ → State → ℕ → Option (List ℕ)
-members_of n s comm = if comm == 0 then Some (world n 0) else members_among s.made comm
+abbrev pub members_known : ℕ → State → ℕ → Option (List ℕ)
+members_known n s comm = if comm == 0 then Some (world n 0) else members_among s.made comm

@@ -9,7 +9,7 @@ use Rattle.c_names.specs.declared.operator.Operator.TheVariants.{LogicalAnd, Log
 use Rattle.c_program.specs.declared.expr.Field.{Field}
 use Rattle.c_program.specs.declared.expr.Field.TheVariants.{Source, Tag}
 use Rattle.c_program.specs.Tree as t
-use Rattle.c_program.specs.Tree.{Expr, Links, Place, Reference}
+use Rattle.c_program.specs.Tree.{TypedExpr, TypedLinks, TypedPlace, Reference}
 use Rattle.c_program.specs.Cells.{Cells}
 use Rattle.c_program.specs.State.{Slot, State, cell_at, no_cells}
 
@@ -61,28 +61,28 @@ operated operator left right = or_fault DivideByZero (applied operator left righ
 
 -- from left to right
 abbrev mutual
-  pub value : Expr → State → Result ℤ Fault
+  pub value : TypedExpr → State → Result ℤ Fault
   value (t.number n) s = Ok n
-  value (t.read place) s = given (cell_of place s) (λ cell. Ok (cell_at s cell))
-  value (t.field status field) s = given (cell_of status s) (λ cell. Ok (cell_at s (cell + field_place field)))
+  value (t.read place) s = given (cell_of_place place s) (λ cell. Ok (cell_at s cell))
+  value (t.field status field) s = given (cell_of_place status s) (λ cell. Ok (cell_at s (cell + field_place field)))
   value (t.signed sign operand) s = given (value operand s) (λ v. Ok (unary_applied sign v))
-  value (t.chain first links) s = given (value first s) (λ v. chained links v s)
+  value (t.chain first links) s = given (value first s) (λ v. value_with_links links v s)
   value (t.choice test taken spared) s = given (value test s) (λ v. if is_set v then value taken s else value spared s)
 
   -- the links after an operand with this value
-  pub chained : Links → ℤ → State → Result ℤ Fault
-  chained t.no_link v s = Ok v
-  chained (t.link operator operand links) v s =
+  pub value_with_links : TypedLinks → ℤ → State → Result ℤ Fault
+  value_with_links t.no_link v s = Ok v
+  value_with_links (t.link operator operand links) v s =
       given (if is_decided operator v then Ok (int_of (is_set v)) else given (value operand s) (λ w. operated operator v w))
-      (λ v. chained links v s)
+      (λ v. value_with_links links v s)
 
   -- the cell of a place
-  pub cell_of : Place → State → Result ℕ Fault
-  cell_of (t.whole variable) s = given (cells_of variable s) (λ cells. Ok cells.from)
-  cell_of (t.element variable index) s = given (value index s) (λ i. given (cells_of variable s) (λ cells. element cells i))
+  pub cell_of_place : TypedPlace → State → Result ℕ Fault
+  cell_of_place (t.whole variable) s = given (cells_of variable s) (λ cells. Ok cells.from)
+  cell_of_place (t.element variable index) s = given (value index s) (λ i. given (cells_of variable s) (λ cells. element cells i))
 
 -- the values of expressions, from left to right
-abbrev pub values : List Expr → State → Result (List ℤ) Fault
+abbrev pub values : List TypedExpr → State → Result (List ℤ) Fault
 values [] s = Ok []
 values (e ∷ es) s = given (value e s) (λ v. given (values es s) (λ vs. Ok (v ∷ vs)))
 

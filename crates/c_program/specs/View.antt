@@ -1,18 +1,18 @@
 -- A typed program without where it lies in memory.
 use Rattle.std.specs.Prelude.{List, [], ◌∷◌, map, option_map}
 use Rattle.c_names.specs.declared.operator.Operator.{Operator}
-use Rattle.c_program.specs.declared.expr.Argument.{Argument}
-use Rattle.c_program.specs.declared.expr.Argument.TheVariants as argument
-use Rattle.c_program.specs.declared.expr.Expr.{Expr}
-use Rattle.c_program.specs.declared.expr.Expr.TheFolds.{fold-Expr, fold-Place}
-use Rattle.c_program.specs.declared.expr.Expr.TheOpen as o
+use Rattle.c_program.specs.declared.expr.TypedArgument.{TypedArgument}
+use Rattle.c_program.specs.declared.expr.TypedArgument.TheVariants as argument
+use Rattle.c_program.specs.declared.expr.TypedExpr.{TypedExpr}
+use Rattle.c_program.specs.declared.expr.TypedExpr.TheFolds.{fold-TypedExpr, fold-TypedPlace}
+use Rattle.c_program.specs.declared.expr.TypedExpr.TheOpen as o
 use Rattle.c_program.specs.declared.expr.FunctionCall.{FunctionCall}
-use Rattle.c_program.specs.declared.expr.Link.{Link}
-use Rattle.c_program.specs.declared.expr.Place.{Place}
+use Rattle.c_program.specs.declared.expr.TypedLink.{TypedLink}
+use Rattle.c_program.specs.declared.expr.TypedPlace.{TypedPlace}
 use Rattle.c_program.specs.declared.expr.Reference.{Reference}
 use Rattle.c_program.specs.declared.expr.Reference.TheVariants as reference
-use Rattle.c_program.specs.declared.expr.Right.{Right}
-use Rattle.c_program.specs.declared.expr.Right.TheVariants as right
+use Rattle.c_program.specs.declared.expr.TypedRight.{TypedRight}
+use Rattle.c_program.specs.declared.expr.TypedRight.TheVariants as right
 use Rattle.c_program.specs.declared.mpi.Buffer.{Buffer}
 use Rattle.c_program.specs.declared.mpi.CollectiveCall.{CollectiveCall}
 use Rattle.c_program.specs.declared.mpi.CollectiveCall.TheVariants as collective
@@ -32,65 +32,65 @@ use Rattle.c_program.specs.declared.mpi.Reduction.{Reduction}
 use Rattle.c_program.specs.declared.mpi.SomeRequests.{SomeRequests}
 use Rattle.c_program.specs.declared.program.CProgram.{CProgram}
 use Rattle.c_program.specs.declared.program.Function.{Function}
-use Rattle.c_program.specs.declared.statement.Declaration.{Declaration}
-use Rattle.c_program.specs.declared.statement.ForStart.{ForStart}
-use Rattle.c_program.specs.declared.statement.ForStart.TheVariants as start
-use Rattle.c_program.specs.declared.statement.InitDeclarator.{InitDeclarator}
-use Rattle.c_program.specs.declared.statement.Initializer.{Initializer}
-use Rattle.c_program.specs.declared.statement.Initializer.TheVariants as initial
-use Rattle.c_program.specs.declared.statement.Part.{Part}
-use Rattle.c_program.specs.declared.statement.Part.TheFolds.{fold-Part, fold-Stmt}
-use Rattle.c_program.specs.declared.statement.Part.TheOpen as p
-use Rattle.c_program.specs.declared.statement.Simple.{Simple}
-use Rattle.c_program.specs.declared.statement.Simple.TheVariants as simple
-use Rattle.c_program.specs.declared.statement.Stmt.{Stmt}
+use Rattle.c_program.specs.declared.statement.TypedDeclaration.{TypedDeclaration}
+use Rattle.c_program.specs.declared.statement.TypedForStart.{TypedForStart}
+use Rattle.c_program.specs.declared.statement.TypedForStart.TheVariants as start
+use Rattle.c_program.specs.declared.statement.TypedInitDeclarator.{TypedInitDeclarator}
+use Rattle.c_program.specs.declared.statement.TypedInitializer.{TypedInitializer}
+use Rattle.c_program.specs.declared.statement.TypedInitializer.TheVariants as initial
+use Rattle.c_program.specs.declared.statement.TypedPart.{TypedPart}
+use Rattle.c_program.specs.declared.statement.TypedPart.TheFolds.{fold-TypedPart, fold-TypedStmt}
+use Rattle.c_program.specs.declared.statement.TypedPart.TheOpen as p
+use Rattle.c_program.specs.declared.statement.TypedSimple.{TypedSimple}
+use Rattle.c_program.specs.declared.statement.TypedSimple.TheVariants as simple
+use Rattle.c_program.specs.declared.statement.TypedStmt.{TypedStmt}
 use Rattle.c_program.specs.Tree as t
 
 -- ---- expressions
 
 -- an operator and its operand
-pub record Piece : Type 0 where
+pub record TypedPiece : Type 0 where
   pub operator : Operator
-  pub operand : t.Expr
+  pub operand : t.TypedExpr
 
 -- links from a list of pieces
-abbrev pub links_from : List Piece → t.Links
-links_from [] = t.no_link
-links_from (p ∷ ps) = t.link p.operator p.operand (links_from ps)
+abbrev pub typed_links : List TypedPiece → t.TypedLinks
+typed_links [] = t.no_link
+typed_links (p ∷ ps) = t.link p.operator p.operand (typed_links ps)
 
 -- of one layer of an expression
-abbrev pub expr_step : o.Expr-F t.Expr t.Place Piece → t.Expr
-expr_step (o.Number n) = t.number n
-expr_step (o.Read place) = t.read place
-expr_step (o.Field status field) = t.field status field
-expr_step (o.Signed sign operand) = t.signed sign operand.value
-expr_step (o.Chain first links) = t.chain first.value (links_from links.items)
-expr_step (o.Choice test then other) = t.choice test.value then.value other.value
+abbrev pub pure_expr_step : o.TypedExpr-F t.TypedExpr t.TypedPlace TypedPiece → t.TypedExpr
+pure_expr_step (o.Number n) = t.number n
+pure_expr_step (o.Read place) = t.read place
+pure_expr_step (o.Field status field) = t.field status field
+pure_expr_step (o.Signed sign operand) = t.signed sign operand.value
+pure_expr_step (o.Chain first links) = t.chain first.value (typed_links links.items)
+pure_expr_step (o.Choice test then other) = t.choice test.value then.value other.value
 
 -- of one layer of a place
-abbrev pub place_step : o.Place-F t.Expr t.Place Piece → t.Place
-place_step (o.Whole variable) = t.whole variable
-place_step (o.Element variable index) = t.element variable index.value
+abbrev pub pure_place_step : o.TypedPlace-F t.TypedExpr t.TypedPlace TypedPiece → t.TypedPlace
+pure_place_step (o.Whole variable) = t.whole variable
+pure_place_step (o.Element variable index) = t.element variable index.value
 
 -- of one layer of a link
-abbrev pub link_step : o.Link-F t.Expr t.Place Piece → Piece
-link_step l = record { operator = l.operator; operand = l.operand }
+abbrev pub pure_link_step : o.TypedLink-F t.TypedExpr t.TypedPlace TypedPiece → TypedPiece
+pure_link_step l = record { operator = l.operator; operand = l.operand }
 
 -- of an expression
-unfoldable pub pure_expr : Expr → t.Expr
-pure_expr = fold-Expr t.Expr t.Place Piece expr_step place_step link_step
+unfoldable pub pure_expr : TypedExpr → t.TypedExpr
+pure_expr = fold-TypedExpr t.TypedExpr t.TypedPlace TypedPiece pure_expr_step pure_place_step pure_link_step
 
 -- of a place
-unfoldable pub pure_place : Place → t.Place
-pure_place = fold-Place t.Expr t.Place Piece expr_step place_step link_step
+unfoldable pub pure_place : TypedPlace → t.TypedPlace
+pure_place = fold-TypedPlace t.TypedExpr t.TypedPlace TypedPiece pure_expr_step pure_place_step pure_link_step
 
 -- of a link
-abbrev pub pure_link : Link → Piece
+abbrev pub pure_link : TypedLink → TypedPiece
 pure_link l = record { operator = l.operator; operand = pure_expr l.operand }
 
 -- of links
-abbrev pub pure_links : List Link → t.Links
-pure_links links = links_from (map pure_link links)
+abbrev pub pure_links : List TypedLink → t.TypedLinks
+pure_links links = typed_links (map pure_link links)
 
 -- of a reference
 abbrev pub pure_reference : Reference → t.Reference
@@ -101,7 +101,7 @@ pure_reference (reference.From variable index) = t.from variable (pure_expr inde
 -- ---- calls of functions of the text
 
 -- of an argument
-abbrev pub pure_argument : Argument → t.Argument
+abbrev pub pure_argument : TypedArgument → t.TypedArgument
 pure_argument (argument.Value e) = t.by_value (pure_expr e)
 pure_argument (argument.Reference given) = t.by_reference (pure_reference given)
 
@@ -110,7 +110,7 @@ abbrev pub pure_call : FunctionCall → t.FunctionCall
 pure_call call = record { function = call.function; arguments = map pure_argument call.arguments.items }
 
 -- of a right side
-abbrev pub pure_right : Right → t.Right
+abbrev pub pure_right : TypedRight → t.TypedRight
 pure_right (right.Value e) = t.value (pure_expr e)
 pure_right (right.Call call) = t.called (pure_call call)
 
@@ -214,7 +214,7 @@ pure_mpi (mpi.Communicator call) = t.communicator (pure_communicator call)
 -- ---- statements
 
 -- of a simple statement
-abbrev pub pure_simple : Simple → t.Simple
+abbrev pub pure_simple : TypedSimple → t.TypedSimple
 pure_simple (simple.Set place given) = t.set (pure_place place) (pure_right given)
 pure_simple (simple.Update place operator given) = t.update (pure_place place) operator (pure_right given)
 pure_simple (simple.Call call) = t.call (pure_call call)
@@ -223,60 +223,60 @@ pure_simple (simple.Print format arguments) = t.print format.items (map pure_exp
 pure_simple simple.Flush = t.flush
 
 -- of how a variable begins
-abbrev pub pure_initial : Initializer → t.Initializer
+abbrev pub pure_initial : TypedInitializer → t.TypedInitializer
 pure_initial initial.Nothing = t.no_initial
 pure_initial (initial.Right given) = t.right (pure_right given)
 pure_initial (initial.Values values) = t.values (map pure_expr values.items)
 
 -- of a variable that is declared
-abbrev pub pure_item : InitDeclarator → t.InitDeclarator
+abbrev pub pure_item : TypedInitDeclarator → t.TypedInitDeclarator
 pure_item item = record { name = item.name; kind = item.kind; length = item.length; initial = pure_initial item.initial }
 
 -- of a declaration
-abbrev pub pure_declaration : Declaration → List t.InitDeclarator
+abbrev pub pure_declaration : TypedDeclaration → List t.TypedInitDeclarator
 pure_declaration declaration = map pure_item declaration.items.items
 
 -- of how a for begins
-abbrev pub pure_start : ForStart → t.ForStart
+abbrev pub pure_start : TypedForStart → t.TypedForStart
 pure_start start.Nothing = t.no_start
 pure_start (start.Declaration declaration) = t.declared_start (pure_declaration declaration)
 pure_start (start.Simple one) = t.simple_start (pure_simple one)
 
 -- parts from a list of them
-abbrev pub parts_from : List t.Part → t.Parts
-parts_from [] = t.no_part
-parts_from (p ∷ ps) = t.part p (parts_from ps)
+abbrev pub typed_parts : List t.TypedPart → t.TypedParts
+typed_parts [] = t.no_part
+typed_parts (p ∷ ps) = t.part p (typed_parts ps)
 
 -- of one layer of a statement
-abbrev pub stmt_step : p.Stmt-F t.Part t.Stmt → t.Stmt
-stmt_step (p.Block parts) = t.block (parts_from parts.items)
-stmt_step p.Empty = t.empty
-stmt_step (p.Simple one) = t.simple (pure_simple one)
-stmt_step p.Break = t.break
-stmt_step p.Continue = t.continue
-stmt_step (p.Return given) = t.return (option_map pure_right given)
-stmt_step (p.If test then) = t.if_only (pure_expr test) then.value
-stmt_step (p.IfElse test then other) = t.if_else (pure_expr test) then.value other.value
-stmt_step (p.While test body) = t.while (pure_expr test) body.value
-stmt_step (p.Do body test) = t.do_while body.value (pure_expr test)
-stmt_step (p.For begun test step body) = t.for (pure_start begun) (option_map pure_expr test) (option_map pure_simple step) body.value
+abbrev pub pure_stmt_step : p.TypedStmt-F t.TypedPart t.TypedStmt → t.TypedStmt
+pure_stmt_step (p.Block parts) = t.block (typed_parts parts.items)
+pure_stmt_step p.Empty = t.empty
+pure_stmt_step (p.Simple one) = t.simple (pure_simple one)
+pure_stmt_step p.Break = t.break
+pure_stmt_step p.Continue = t.continue
+pure_stmt_step (p.Return given) = t.return (option_map pure_right given)
+pure_stmt_step (p.If test then) = t.if_only (pure_expr test) then.value
+pure_stmt_step (p.IfElse test then other) = t.if_else (pure_expr test) then.value other.value
+pure_stmt_step (p.While test body) = t.while (pure_expr test) body.value
+pure_stmt_step (p.Do body test) = t.do_while body.value (pure_expr test)
+pure_stmt_step (p.For begun test step body) = t.for (pure_start begun) (option_map pure_expr test) (option_map pure_simple step) body.value
 
 -- of one layer of a part
-abbrev pub part_step : p.Part-F t.Part t.Stmt → t.Part
-part_step (p.Declaration declaration) = t.declare (pure_declaration declaration)
-part_step (p.Stmt inner) = t.stmt inner
+abbrev pub pure_part_step : p.TypedPart-F t.TypedPart t.TypedStmt → t.TypedPart
+pure_part_step (p.Declaration declaration) = t.declare (pure_declaration declaration)
+pure_part_step (p.Stmt inner) = t.stmt inner
 
 -- of a statement
-unfoldable pub pure_stmt : Stmt → t.Stmt
-pure_stmt = fold-Stmt t.Part t.Stmt part_step stmt_step
+unfoldable pub pure_stmt : TypedStmt → t.TypedStmt
+pure_stmt = fold-TypedStmt t.TypedPart t.TypedStmt pure_part_step pure_stmt_step
 
 -- of a part of a block
-unfoldable pub pure_part : Part → t.Part
-pure_part = fold-Part t.Part t.Stmt part_step stmt_step
+unfoldable pub pure_part : TypedPart → t.TypedPart
+pure_part = fold-TypedPart t.TypedPart t.TypedStmt pure_part_step pure_stmt_step
 
 -- of the parts of a block
-abbrev pub pure_parts : List Part → t.Parts
-pure_parts parts = parts_from (map pure_part parts)
+abbrev pub pure_parts : List TypedPart → t.TypedParts
+pure_parts parts = typed_parts (map pure_part parts)
 
 -- ---- programs
 

@@ -39,7 +39,7 @@ pub enum Start {
 
 /// The cells that a completion call answers into, besides buffers and handles; `None` for what it does not answer.
 #[derive(Clone, Copy)]
-pub struct Answer {
+pub struct AnswerCells {
     pub flag: Option<u32>,
     pub index: Option<u32>,
     pub outcount: Option<u32>,
@@ -49,7 +49,7 @@ pub struct Answer {
 
 /// What a member enters into a collective.
 #[derive(Clone, Copy)]
-pub enum Entered {
+pub enum EnterInput {
     Nothing,
     Cells(Range),
     /// A colour and a key.
@@ -73,7 +73,7 @@ pub struct Collective {
     pub root: Option<u8>,
     pub op: Option<Op>,
     pub count: u32,
-    pub entered: Entered,
+    pub entered: EnterInput,
     pub into: Into,
 }
 
@@ -103,7 +103,7 @@ pub enum Effect {
     Completes {
         requests: Range,
         mode: TakeMode,
-        answer: Answer,
+        answer: AnswerCells,
     },
     Probes {
         comm: u32,

@@ -5,44 +5,47 @@ use c_names::operator::{Operator, UnaryOperator};
 /// An expression. Handles are numbers: a request is that of its start, a communicator its own, and -1 is none.
 #[cycle(typed)]
 #[derive(Drop)]
-pub enum Expr {
+pub enum TypedExpr {
     Number(i32),
-    Read(Place),
+    Read(TypedPlace),
     /// A field of a status.
     Field {
-        status: Place,
+        status: TypedPlace,
         field: Field,
     },
     Signed {
         sign: UnaryOperator,
-        operand: Box<Expr>,
+        operand: Box<TypedExpr>,
     },
     /// Operators of one level, from the left on. `&&` and `||` evaluate only what they need.
     Chain {
-        first: Box<Expr>,
-        links: Vec<Link>,
+        first: Box<TypedExpr>,
+        links: Vec<TypedLink>,
     },
     Choice {
-        test: Box<Expr>,
-        then: Box<Expr>,
-        other: Box<Expr>,
+        test: Box<TypedExpr>,
+        then: Box<TypedExpr>,
+        other: Box<TypedExpr>,
     },
 }
 
 /// A variable by its number, which is how many variables of its function stand before it, or an element of it.
 #[cycle(typed)]
 #[derive(Drop)]
-pub enum Place {
+pub enum TypedPlace {
     Whole(usize),
-    Element { variable: usize, index: Box<Expr> },
+    Element {
+        variable: usize,
+        index: Box<TypedExpr>,
+    },
 }
 
 /// An operator and the operand behind it.
 #[cycle(typed)]
 #[derive(Drop)]
-pub struct Link {
+pub struct TypedLink {
     pub operator: Operator,
-    pub operand: Expr,
+    pub operand: TypedExpr,
 }
 
 /// What programs read of a status, which has three cells: the source, the tag and the count.
@@ -60,13 +63,13 @@ pub enum Reference {
     /// All cells of a variable.
     Whole(usize),
     /// The elements of a variable from one on, or none where it is the length.
-    From { variable: usize, index: Expr },
+    From { variable: usize, index: TypedExpr },
 }
 
 /// An argument of a function of the text.
 #[derive(Drop)]
-pub enum Argument {
-    Value(Expr),
+pub enum TypedArgument {
+    Value(TypedExpr),
     Reference(Reference),
 }
 
@@ -74,12 +77,12 @@ pub enum Argument {
 #[derive(Drop)]
 pub struct FunctionCall {
     pub function: usize,
-    pub arguments: Vec<Argument>,
+    pub arguments: Vec<TypedArgument>,
 }
 
 /// A right side.
 #[derive(Drop)]
-pub enum Right {
-    Value(Expr),
+pub enum TypedRight {
+    Value(TypedExpr),
     Call(FunctionCall),
 }

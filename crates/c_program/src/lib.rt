@@ -1,4 +1,6 @@
 //! The typed program of a C text, and what it means: the calls that a rank makes, by the replies that it gets.
+//!
+//! The tree of the grammar (`c_grammar`) has the names of the productions; what one of them means has its name with `Typed` before it.
 #![tactic(auto)]
 
 pub mod constants;

@@ -1,29 +1,29 @@
 //! Calls of MPI functions with their arguments, in their order, by the chapters of the standard. A status that is ignored is `None`.
 
-use crate::expr::{Expr, Reference};
+use crate::expr::{Reference, TypedExpr};
 use mpi_call::call::Op;
 
 /// The ints of a message: where they lie, and how many they are.
 #[derive(Drop)]
 pub struct Buffer {
     pub cells: Reference,
-    pub count: Expr,
+    pub count: TypedExpr,
 }
 
 /// What a send takes (MPI 3.1, 3.2.1): its ints, and where they go.
 #[derive(Drop)]
 pub struct Outgoing {
     pub buffer: Buffer,
-    pub dest: Expr,
-    pub tag: Expr,
+    pub dest: TypedExpr,
+    pub tag: TypedExpr,
 }
 
 /// What a receive takes (MPI 3.1, 3.2.4): room for ints, and where they come from.
 #[derive(Drop)]
 pub struct Incoming {
     pub buffer: Buffer,
-    pub source: Expr,
-    pub tag: Expr,
+    pub source: TypedExpr,
+    pub tag: TypedExpr,
 }
 
 /// Sends and receives (MPI 3.1, 3.2, 3.4, 3.7.2 and 3.10). Those with an `S` are synchronous.
@@ -31,36 +31,36 @@ pub struct Incoming {
 pub enum MessageCall {
     Send {
         message: Outgoing,
-        comm: Expr,
+        comm: TypedExpr,
     },
     Ssend {
         message: Outgoing,
-        comm: Expr,
+        comm: TypedExpr,
     },
     Recv {
         message: Incoming,
-        comm: Expr,
+        comm: TypedExpr,
         status: Option<Reference>,
     },
     Isend {
         message: Outgoing,
-        comm: Expr,
+        comm: TypedExpr,
         request: Reference,
     },
     Issend {
         message: Outgoing,
-        comm: Expr,
+        comm: TypedExpr,
         request: Reference,
     },
     Irecv {
         message: Incoming,
-        comm: Expr,
+        comm: TypedExpr,
         request: Reference,
     },
     Sendrecv {
         send: Outgoing,
         receive: Incoming,
-        comm: Expr,
+        comm: TypedExpr,
         status: Option<Reference>,
     },
 }
@@ -68,7 +68,7 @@ pub enum MessageCall {
 /// What the completion of some of several requests takes (MPI 3.1, 3.7.5): how many there are, where they lie, and where the answers go.
 #[derive(Drop)]
 pub struct SomeRequests {
-    pub count: Expr,
+    pub count: TypedExpr,
     pub requests: Reference,
     pub outcount: Reference,
     pub indices: Reference,
@@ -88,25 +88,25 @@ pub enum CompletionCall {
         status: Option<Reference>,
     },
     Waitany {
-        count: Expr,
+        count: TypedExpr,
         requests: Reference,
         index: Reference,
         status: Option<Reference>,
     },
     Testany {
-        count: Expr,
+        count: TypedExpr,
         requests: Reference,
         index: Reference,
         flag: Reference,
         status: Option<Reference>,
     },
     Waitall {
-        count: Expr,
+        count: TypedExpr,
         requests: Reference,
         statuses: Option<Reference>,
     },
     Testall {
-        count: Expr,
+        count: TypedExpr,
         requests: Reference,
         flag: Reference,
         statuses: Option<Reference>,
@@ -119,15 +119,15 @@ pub enum CompletionCall {
 #[derive(Drop)]
 pub enum ProbeCall {
     Probe {
-        source: Expr,
-        tag: Expr,
-        comm: Expr,
+        source: TypedExpr,
+        tag: TypedExpr,
+        comm: TypedExpr,
         status: Option<Reference>,
     },
     Iprobe {
-        source: Expr,
-        tag: Expr,
-        comm: Expr,
+        source: TypedExpr,
+        tag: TypedExpr,
+        comm: TypedExpr,
         flag: Reference,
         status: Option<Reference>,
     },
@@ -142,7 +142,7 @@ pub enum ProbeCall {
 pub struct Reduction {
     pub send: Reference,
     pub receive: Reference,
-    pub count: Expr,
+    pub count: TypedExpr,
     pub op: Op,
 }
 
@@ -150,47 +150,47 @@ pub struct Reduction {
 #[derive(Drop)]
 pub enum CollectiveCall {
     Barrier {
-        comm: Expr,
+        comm: TypedExpr,
     },
     Bcast {
         buffer: Buffer,
-        root: Expr,
-        comm: Expr,
+        root: TypedExpr,
+        comm: TypedExpr,
     },
     Gather {
         send: Buffer,
         receive: Buffer,
-        root: Expr,
-        comm: Expr,
+        root: TypedExpr,
+        comm: TypedExpr,
     },
     Scatter {
         send: Buffer,
         receive: Buffer,
-        root: Expr,
-        comm: Expr,
+        root: TypedExpr,
+        comm: TypedExpr,
     },
     Allgather {
         send: Buffer,
         receive: Buffer,
-        comm: Expr,
+        comm: TypedExpr,
     },
     Alltoall {
         send: Buffer,
         receive: Buffer,
-        comm: Expr,
+        comm: TypedExpr,
     },
     Reduce {
         reduction: Reduction,
-        root: Expr,
-        comm: Expr,
+        root: TypedExpr,
+        comm: TypedExpr,
     },
     Allreduce {
         reduction: Reduction,
-        comm: Expr,
+        comm: TypedExpr,
     },
     Scan {
         reduction: Reduction,
-        comm: Expr,
+        comm: TypedExpr,
     },
 }
 
@@ -198,21 +198,21 @@ pub enum CollectiveCall {
 #[derive(Drop)]
 pub enum CommunicatorCall {
     Size {
-        comm: Expr,
+        comm: TypedExpr,
         size: Reference,
     },
     Rank {
-        comm: Expr,
+        comm: TypedExpr,
         rank: Reference,
     },
     Dup {
-        comm: Expr,
+        comm: TypedExpr,
         made: Reference,
     },
     Split {
-        comm: Expr,
-        color: Expr,
-        key: Expr,
+        comm: TypedExpr,
+        color: TypedExpr,
+        key: TypedExpr,
         made: Reference,
     },
     Free {
@@ -225,7 +225,7 @@ pub enum CommunicatorCall {
 pub enum MpiCall {
     Init,
     Finalize,
-    Abort { comm: Expr, code: Expr },
+    Abort { comm: TypedExpr, code: TypedExpr },
     Message(MessageCall),
     Completion(CompletionCall),
     Probe(ProbeCall),

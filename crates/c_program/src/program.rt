@@ -1,6 +1,6 @@
 //! Typed programs.
 
-use crate::statement::Part;
+use crate::statement::TypedPart;
 use run_model::program::Program;
 use wiz_base::Bytes;
 
@@ -16,7 +16,7 @@ pub enum ParameterKind {
 }
 
 #[derive(Drop)]
-pub struct Parameter {
+pub struct TypedParameter {
     pub name: Bytes,
     pub kind: ParameterKind,
 }
@@ -24,8 +24,8 @@ pub struct Parameter {
 /// A function: calls name it by its number. Its parameters are its first variables.
 #[derive(Drop)]
 pub struct Function {
-    pub parameters: Vec<Parameter>,
-    pub body: Vec<Part>,
+    pub parameters: Vec<TypedParameter>,
+    pub body: Vec<TypedPart>,
 }
 
 /// A program without faults: its functions in the order of the text, and the number of main.

@@ -31,7 +31,7 @@ impl Model for Range {
 impl Range {
     ghost use Rattle.std.specs.Prelude.{◌≡◌, ◌+◌, ◌*◌, ◌≤◌, IfOk};
     ghost use Rattle.c_program.specs.State.{no_cells};
-    ghost use Rattle.c_program.specs.Effects.{first as first_of};
+    ghost use Rattle.c_program.specs.Effects.{first_of_range as first_of};
     ghost use Rattle.c_program.specs.Values.{element as element_of, elements_from as elements_of};
 
     /// `NULL`: no cells.

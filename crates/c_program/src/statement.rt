@@ -1,6 +1,6 @@
 //! Typed statements.
 
-use crate::expr::{Expr, FunctionCall, Place, Right};
+use crate::expr::{FunctionCall, TypedExpr, TypedPlace, TypedRight};
 use crate::mpi::MpiCall;
 use c_names::format::FormatPiece;
 use c_names::kind::VariableKind;
@@ -9,23 +9,23 @@ use wiz_base::Bytes;
 
 /// A statement that stands before a `;`.
 #[derive(Drop)]
-pub enum Simple {
+pub enum TypedSimple {
     /// `place = right`.
     Set {
-        place: Place,
-        right: Right,
+        place: TypedPlace,
+        right: TypedRight,
     },
     /// `place operator= right`, and `++` and `--`, which are by 1.
     Update {
-        place: Place,
+        place: TypedPlace,
         operator: Operator,
-        right: Right,
+        right: TypedRight,
     },
     Call(FunctionCall),
     Mpi(Box<MpiCall>),
     Print {
         format: Vec<FormatPiece>,
-        arguments: Vec<Expr>,
+        arguments: Vec<TypedExpr>,
     },
     /// `fflush(stdout)`, which does nothing.
     Flush,
@@ -33,72 +33,72 @@ pub enum Simple {
 
 /// How a variable begins: as nothing of its kind, as a right side, or with some ints and then 0.
 #[derive(Drop)]
-pub enum Initializer {
+pub enum TypedInitializer {
     Nothing,
-    Right(Right),
-    Values(Vec<Expr>),
+    Right(TypedRight),
+    Values(Vec<TypedExpr>),
 }
 
 /// A variable that is declared; `length` is that of an array.
 #[derive(Drop)]
-pub struct InitDeclarator {
+pub struct TypedInitDeclarator {
     pub name: Bytes,
     pub kind: VariableKind,
     pub length: Option<u32>,
-    pub initial: Initializer,
+    pub initial: TypedInitializer,
 }
 
 #[derive(Drop)]
-pub struct Declaration {
-    pub items: Vec<InitDeclarator>,
+pub struct TypedDeclaration {
+    pub items: Vec<TypedInitDeclarator>,
 }
 
 #[derive(Drop)]
-pub enum ForStart {
+pub enum TypedForStart {
     Nothing,
-    Declaration(Declaration),
-    Simple(Simple),
+    Declaration(TypedDeclaration),
+    Simple(TypedSimple),
 }
 
 #[cycle(statement)]
 #[derive(Drop)]
-pub enum Stmt {
-    Block(Vec<Part>),
+pub enum TypedStmt {
+    Block(Vec<TypedPart>),
     Empty,
-    Simple(Simple),
+    Simple(TypedSimple),
     Break,
     Continue,
-    Return(Option<Right>),
+    Return(Option<TypedRight>),
     If {
-        test: Expr,
-        then: Box<Stmt>,
+        test: TypedExpr,
+        then: Box<TypedStmt>,
     },
     IfElse {
-        test: Expr,
-        then: Box<Stmt>,
-        other: Box<Stmt>,
+        test: TypedExpr,
+        then: Box<TypedStmt>,
+        other: Box<TypedStmt>,
     },
     While {
-        test: Expr,
-        body: Box<Stmt>,
+        test: TypedExpr,
+        body: Box<TypedStmt>,
     },
     Do {
-        body: Box<Stmt>,
-        test: Expr,
+        body: Box<TypedStmt>,
+        test: TypedExpr,
     },
     /// A block of its own.
     For {
-        start: ForStart,
-        test: Option<Expr>,
-        step: Option<Simple>,
-        body: Box<Stmt>,
+        start: TypedForStart,
+        test: Option<TypedExpr>,
+        step: Option<TypedSimple>,
+        body: Box<TypedStmt>,
     },
 }
 
 /// What stands in a block.
 #[cycle(statement)]
 #[derive(Drop)]
-pub enum Part {
-    Declaration(Declaration),
-    Stmt(Stmt),
+pub enum TypedPart {
+    Declaration(TypedDeclaration),
+    Stmt(TypedStmt),
 }

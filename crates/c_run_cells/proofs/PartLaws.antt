@@ -6,12 +6,12 @@ use Rattle.c_names.specs.declared.format.FormatPiece.{FormatPiece}
 use Rattle.c_program.specs.declared.constants.TheConstants.{MOST_PRINTED}
 use Rattle.c_program.specs.declared.effect.Rank.{Rank}
 use Rattle.c_program.specs.declared.program.Function as source
-use Rattle.c_program.specs.declared.program.Parameter.{Parameter}
+use Rattle.c_program.specs.declared.program.TypedParameter.{TypedParameter}
 use Rattle.c_program.specs.declared.program.ParameterKind.{ParameterKind}
 use Rattle.c_program.specs.declared.program.ParameterKind.TheVariants.{Int, Communicator, Array, Texts}
 use Rattle.c_program.specs.declared.state.Passed.{Passed}
 use Rattle.c_program.specs.Courses.{trapped}
-use Rattle.c_program.specs.Meaning.{act_parts, call_at, exits_to, has_room, opened, parameter_cells, print as print_of, with_parameter, with_parameters}
+use Rattle.c_program.specs.Meaning.{act_parts, call_at, exits_to, has_room, with_open_call, parameter_cells, print as print_of, with_parameter, with_parameters}
 use Rattle.c_program.specs.Performing.{Onward}
 use Rattle.c_program.specs.Prints.{text_of}
 use Rattle.c_program.specs.State.{State, stack_mark}
@@ -44,15 +44,15 @@ parameter-left name Communicator one s = refl
 parameter-left name Array one s = refl
 parameter-left name Texts one s = refl
 
-pub parameters-left : (parameters : List Parameter) (arguments : List Passed) (s : State) → (with_parameters parameters arguments s).left ≡ s.left
+pub parameters-left : (parameters : List TypedParameter) (arguments : List Passed) (s : State) → (with_parameters parameters arguments s).left ≡ s.left
 parameters-left [] arguments s = refl
 parameters-left (parameter ∷ parameters) [] s = parameters-left parameters [] (with_parameter parameter None s) ∙ parameter-left parameter.name parameter.kind None s
 parameters-left (parameter ∷ parameters) (one ∷ others) s = parameters-left parameters others (with_parameter parameter (Some one) s) ∙ parameter-left parameter.name parameter.kind (Some one) s
 
 pub enters : (f : Function) (arguments : List Passed) (s t : State) → has_room (parameter_cells f.parameters) s ≡ true
-    → t ≡ with_parameters f.parameters arguments (opened s) → Leads {K = Onward} {A = Unit {0}} (λ go done. go) (entered f arguments) s (tt {0}) t
+    → t ≡ with_parameters f.parameters arguments (with_open_call s) → Leads {K = Onward} {A = Unit {0}} (λ go done. go) (entered f arguments) s (tt {0}) t
 enters f arguments s t room is =
-    let same : t.left ≡ s.left = ap (λ (u : State). u.left) is ∙ parameters-left f.parameters arguments (opened s) in
+    let same : t.left ≡ s.left = ap (λ (u : State). u.left) is ∙ parameters-left f.parameters arguments (with_open_call s) in
     record { at = λ k. rw room (ap k (sym is)); left = omega arith }
 
 -- ---- calls

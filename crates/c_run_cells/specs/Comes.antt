@@ -8,9 +8,9 @@ use Rattle.c_run_cells.specs.declared.fail.Fail.{Fail}
 use Rattle.c_run_cells.specs.declared.fail.Fail.TheVariants.{Memory, Trapped}
 
 -- a course at which evaluation fails; out of memory nothing is known
-abbrev pub Fails : Course → Fail → State → Type 0
-Fails course Memory t = Unit {0}
-Fails course (Trapped fault) t = course ≡ trapped fault t
+abbrev pub FailsToEvaluate : Course → Fail → State → Type 0
+FailsToEvaluate course Memory t = Unit {0}
+FailsToEvaluate course (Trapped fault) t = course ≡ trapped fault t
 
 -- a meaning comes to this value, from which each `k` leads on
 pub record Leads {K A : Type 0} (leads : K → A → Onward) (m : State → K → Course) (s : State) (v : A) (t : State) : Type 0 where
@@ -20,12 +20,12 @@ pub record Leads {K A : Type 0} (leads : K → A → Onward) (m : State → K �
 -- a meaning comes to a value, or fails
 abbrev pub Comes : {K A : Type 0} → (K → A → Onward) → (State → K → Course) → State → Result A Fail → State → Type 0
 Comes leads m s (Ok v) t = Leads leads m s v t
-Comes {K} leads m s (Err fail) t = (k : K) → Fails (m s k) fail t
+Comes {K} leads m s (Err fail) t = (k : K) → FailsToEvaluate (m s k) fail t
 
 -- with one way out
-abbrev pub Does : Passing → State → Result (Unit {0}) Fail → State → Type 0
-Does m s result t = Comes (λ go done. go) m s result t
+abbrev pub ComesOut : Passing → State → Result (Unit {0}) Fail → State → Type 0
+ComesOut m s result t = Comes (λ go done. go) m s result t
 
 -- with a value
-abbrev pub Gives : {A : Type 0} → (State → (A → Onward) → Course) → State → Result A Fail → State → Type 0
-Gives m s result t = Comes (λ go v. go v) m s result t
+abbrev pub ComesToValue : {A : Type 0} → (State → (A → Onward) → Course) → State → Result A Fail → State → Type 0
+ComesToValue m s result t = Comes (λ go v. go v) m s result t

@@ -6,7 +6,7 @@ ghost use Rattle.c_program.specs.Performing.{Onward};
 ghost use Rattle.c_program.specs.Prints.{text_of};
 ghost use Rattle.c_program.specs.Values.{values};
 ghost use Rattle.c_program.specs.View.{pure_argument, pure_expr, pure_function, pure_item};
-ghost use Rattle.c_run_cells.specs.Comes.{Comes, Does, Gives};
+ghost use Rattle.c_run_cells.specs.Comes.{Comes, ComesOut, ComesToValue};
 ghost use Rattle.c_run_cells.specs.Parts.{added, assigned, entered};
 
 use crate::fail::Fail;
@@ -16,17 +16,17 @@ use crate::values::operated;
 use c_names::format::FormatPiece;
 use c_names::operator::Operator;
 use c_program::constants::MOST_PRINTED;
-use c_program::expr::{Argument, Expr};
-use c_program::program::{Function, Parameter, ParameterKind};
+use c_program::expr::{TypedArgument, TypedExpr};
+use c_program::program::{Function, ParameterKind, TypedParameter};
 use c_program::state::Passed;
-use c_program::statement::InitDeclarator;
+use c_program::statement::TypedInitDeclarator;
 use mpi_call::call::Fault;
 use mpi_call::lists::Ints;
 use std::alloc::{AllocError, Global};
 
 /// Takes a step.
 pub fn take_step(state: &mut RankState) -> Result<(), Fail>
-    ensures evaluated { Does step state.old result state.new }
+    ensures evaluated { ComesOut step state.old result state.new }
     ensures fewer { OnOk result (state.new.left < state.old.left) }
 {
     if state.step() {
@@ -40,10 +40,10 @@ pub fn take_step(state: &mut RankState) -> Result<(), Fail>
 pub fn print(
     alloc: Global,
     format: &[FormatPiece],
-    arguments: &[Expr],
+    arguments: &[TypedExpr],
     state: &mut RankState,
 ) -> Result<(), Fail>
-    ensures { Does (λ s go. trying (values (map pure_expr arguments.now) s) s (λ vs. print_of (text_of format.now vs) s go)) state.old result state.new }
+    ensures { ComesOut (λ s go. trying (values (map pure_expr arguments.now) s) s (λ vs. print_of (text_of format.now vs) s go)) state.old result state.new }
 {
     let ints = values_of(alloc, arguments, state)?;
     let text = text_of(alloc, format, ints.as_slice())?;
@@ -56,8 +56,8 @@ pub fn print(
 }
 
 /// The values of expressions, in order.
-fn values_of(alloc: Global, expressions: &[Expr], state: &RankState) -> Result<Ints, Fail>
-    ensures { Gives (λ s go. trying (values (map pure_expr expressions.now) s) s (λ vs. go vs s)) state.now result state.now }
+fn values_of(alloc: Global, expressions: &[TypedExpr], state: &RankState) -> Result<Ints, Fail>
+    ensures { ComesToValue (λ s go. trying (values (map pure_expr expressions.now) s) s (λ vs. go vs s)) state.now result state.now }
 {
     let mut ints = Ints::new(alloc);
     for expression in expressions {
@@ -70,7 +70,7 @@ fn values_of(alloc: Global, expressions: &[Expr], state: &RankState) -> Result<I
 /// The arguments of a function of the text.
 pub fn arguments_of(
     alloc: Global,
-    arguments: &[Argument],
+    arguments: &[TypedArgument],
     state: &RankState,
 ) -> Result<Vec<Passed>, Fail>
     ensures { Comes (λ (go : List Passed → Onward) passed. go passed.items) (λ s go. trying (passed_all (map pure_argument arguments.now) s) s (λ passed. go passed s)) state.now result state.now }
@@ -84,8 +84,12 @@ pub fn arguments_of(
 }
 
 /// Puts the values of expressions from a cell on. Out of memory also where a cell's number would be 2^32.
-pub fn put_values_of(expressions: &[Expr], first: u32, state: &mut RankState) -> Result<(), Fail>
-    ensures { Does (put_values (map pure_expr expressions.now) first) state.old result state.new }
+pub fn put_values_of(
+    expressions: &[TypedExpr],
+    first: u32,
+    state: &mut RankState,
+) -> Result<(), Fail>
+    ensures { ComesOut (put_values (map pure_expr expressions.now) first) state.old result state.new }
 {
     let mut cell = first;
     for expression in expressions {
@@ -106,7 +110,7 @@ pub fn put_assigned(
     value: i32,
     state: &mut RankState,
 ) -> Result<(), Fail>
-    ensures { Does (assigned operator cell value) state.old result state.new }
+    ensures { ComesOut (assigned operator cell value) state.old result state.new }
 {
     match operator {
         None => {
@@ -123,8 +127,8 @@ pub fn put_assigned(
 
 /// The variable of an item, not yet begun; gives its first cell.
 #[tactic(auto, using(crate::proofs::StateLaws::cells_counted))]
-pub fn add<'p>(item: &'p InitDeclarator, state: &mut RankState<'p>) -> Result<u32, Fail>
-    ensures { Gives (added (pure_item item.now)) state.old result state.new }
+pub fn add<'p>(item: &'p TypedInitDeclarator, state: &mut RankState<'p>) -> Result<u32, Fail>
+    ensures { ComesToValue (added (pure_item item.now)) state.old result state.new }
 {
     let elements = elements_of(item);
     let cell = state.height() as u32;
@@ -136,7 +140,7 @@ pub fn add<'p>(item: &'p InitDeclarator, state: &mut RankState<'p>) -> Result<u3
 }
 
 /// How many elements the variable of an item has.
-fn elements_of(item: &InitDeclarator) -> u32
+fn elements_of(item: &TypedInitDeclarator) -> u32
     ensures { result ≡ length_or_one item.now.length }
 {
     match item.length {
@@ -159,7 +163,7 @@ pub fn enter<'p>(
     arguments: &[Passed],
     state: &mut RankState<'p>,
 ) -> Result<(), Fail>
-    ensures { Does (entered (pure_function function.now) arguments.now) state.old result state.new }
+    ensures { ComesOut (entered (pure_function function.now) arguments.now) state.old result state.new }
 {
     if !state.has_room(cells_for(&function.parameters)) {
         return Err(Fail::Trapped(Fault::Cells));
@@ -170,7 +174,7 @@ pub fn enter<'p>(
 }
 
 /// How many cells parameters take.
-fn cells_for(parameters: &[Parameter]) -> usize
+fn cells_for(parameters: &[TypedParameter]) -> usize
     ensures { result ≡ parameter_cells parameters.now }
 {
     let mut cells = 0;
@@ -185,7 +189,7 @@ fn cells_for(parameters: &[Parameter]) -> usize
 
 /// Adds parameters. An argument that is not there is none.
 fn add_parameters<'p>(
-    parameters: &'p [Parameter],
+    parameters: &'p [TypedParameter],
     arguments: &[Passed],
     state: &mut RankState<'p>,
 ) -> Result<(), AllocError>

@@ -1,7 +1,7 @@
 //! What `printf` prints.
 ghost use Rattle.std.specs.Prelude.{◌≡◌, ◌++◌, ◌∷◌, ◌<◌, [], IfOk, List, OnOk, replicate};
 ghost use Rattle.c_names.specs.declared.format.FormatPiece.{FormatPiece};
-ghost use Rattle.c_program.specs.Prints.{digit_text, filled, hexadecimal_text, int_text, sign_text, size_text, text_of};
+ghost use Rattle.c_program.specs.Prints.{digit_text, padded, hexadecimal_text, int_text, sign_text, size_text, text_of};
 
 use c_names::format::{Base, Filling, FormatPiece};
 use std::alloc::{AllocError, Global};
@@ -124,7 +124,7 @@ fn push_filled(
     sign: &[u8],
     size: &[u8],
 ) -> Result<(), AllocError>
-    ensures { OnOk result (out.new ≡ out.old ++ filled filling missing sign.now size.now) }
+    ensures { OnOk result (out.new ≡ out.old ++ padded filling missing sign.now size.now) }
 {
     match filling {
         Filling::Blanks => {

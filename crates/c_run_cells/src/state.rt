@@ -2,21 +2,21 @@
 ghost use Rattle.std.specs.Prelude.{◌≡◌, ◌≤◌, ◌<◌, ◌^◌, ◌+◌, ◌++◌, ◌∷◌, [], IfOk, IfSome, None, OnErr, OnOk, length, map, option_map, true};
 ghost use Rattle.run_model.specs.Lists.{world};
 ghost use Rattle.c_program.specs.Courses.{listed_of, variable_of};
-ghost use Rattle.rank_watch.specs.Innermost.{innermost};
-ghost use Rattle.c_program.specs.Meaning.{cells_in, has_room, number_in, opened, parameter_cells, repeated, start, with_parameter, with_slot};
-ghost use Rattle.c_program.specs.Performing.{begun, learned, made_by, made_by_all, start_at};
+ghost use Rattle.rank_watch.specs.Innermost.{innermost_values};
+ghost use Rattle.c_program.specs.Meaning.{cells_in, has_room, passed_number, with_open_call, parameter_cells, repeated, start, with_parameter, with_slot};
+ghost use Rattle.c_program.specs.Performing.{begun, with_communicators, made_by, made_by_all, begun_at};
 ghost use Rattle.c_program.specs.Values.{cells_of};
-ghost use Rattle.c_program.specs.State.{cell_at, first_cells, ints_in, leave, stack_mark, members_among, members_of, put, put_all, values_from, width_of};
-ghost use Rattle.c_run_cells.specs.Named.{cells_named};
+ghost use Rattle.c_program.specs.State.{cell_at, first_cells, ints_in_cells, leave, stack_mark, members_among, members_known, put, put_all, values_from, width_of};
+ghost use Rattle.c_run_cells.specs.inside.Named.{cells_named};
 ghost use Rattle.c_run_cells.specs.Sizes.{HaveIntSizes};
 ghost use Rattle.c_run_cells.specs.SlotView.{slot_view};
-ghost use Rattle.c_run_cells.specs.Slots.{with_cells};
+ghost use Rattle.c_run_cells.specs.inside.Slots.{with_cells};
 ghost use Rattle.c_run_cells.specs.Steps.{HasStepped};
 
 use c_names::kind::VariableKind;
 use c_program::constants::{ANY_SOURCE, INT_LIMIT, MOST_CELLS, MOST_STEPS, NULL};
 use c_program::effect::Rank;
-use c_program::program::{Parameter, ParameterKind};
+use c_program::program::{ParameterKind, TypedParameter};
 use c_program::range::Range;
 use c_program::state::{Begun, MadeCommunicator, Passed, StackMark};
 use mpi_call::call::Fault;
@@ -116,7 +116,7 @@ impl<'p> RankState<'p> {
     }
 
     pub fn ints_in(&self, alloc: Global, cells: Range) -> Result<Ints, AllocError>
-        ensures { IfOk result (λ ints. ints ≡ ints_in cells self.now) }
+        ensures { IfOk result (λ ints. ints ≡ ints_in_cells cells self.now) }
     {
         self.values_from(alloc, cells.from(), cells.length())
     }
@@ -205,7 +205,7 @@ impl<'p> RankState<'p> {
     /// A parameter more.
     pub fn add_parameter(
         &mut self,
-        parameter: &'p Parameter,
+        parameter: &'p TypedParameter,
         passed: Option<Passed>,
     ) -> Result<(), AllocError>
         requires { has_room (parameter_cells (parameter.now ∷ [])) self.old ≡ true }
@@ -225,7 +225,7 @@ impl<'p> RankState<'p> {
 
     /// One call more is open. Out of memory also where there would be 2^32.
     pub fn open(&mut self) -> Result<(), AllocError>
-        ensures { OnOk result (self.new ≡ opened self.old) }
+        ensures { OnOk result (self.new ≡ with_open_call self.old) }
     {
         if self.opens == u32::MAX {
             return Err(AllocError);
@@ -258,7 +258,7 @@ impl<'p> RankState<'p> {
     /// The values of the innermost variable of a name that stands and is listed, if there is one. Takes the memory of these
     /// values alone.
     pub fn variable(&self, alloc: Global, name: &[u8]) -> Result<Option<Ints>, AllocError>
-        ensures { IfOk result (λ found. found ≡ innermost name.now (listed_of self.now self.now.slots)) }
+        ensures { IfOk result (λ found. found ≡ innermost_values name.now (listed_of self.now self.now.slots)) }
     {
         match cells_named(&self.slots, name) {
             None => Ok(None),
@@ -286,7 +286,7 @@ impl<'p> RankState<'p> {
     }
 
     pub fn start_at(&self, number: u32) -> Begun
-        ensures { result ≡ start_at number self.now }
+        ensures { result ≡ begun_at number self.now }
     {
         let number = number as usize;
         if number < self.starts.len() {
@@ -302,7 +302,7 @@ impl<'p> RankState<'p> {
     /// The members of a communicator, fewer than 2^31.
     pub fn members(&self, rank: Rank, comm: u32) -> Option<&[u8]>
         requires { rank.ranks ≤ MOST_RANKS }
-        ensures members { option_map (λ members. members.now) result ≡ members_of rank.ranks self.now comm }
+        ensures members { option_map (λ members. members.now) result ≡ members_known rank.ranks self.now comm }
         ensures bound { IfSome result (λ members. length members.now < 2 ^ 31) }
     {
         if comm == 0 {
@@ -313,7 +313,7 @@ impl<'p> RankState<'p> {
 
     /// Notes the communicators that items made. Out of memory also where one would have 2^31 members.
     pub fn learn(&mut self, items: &[Item]) -> Result<(), AllocError>
-        ensures { OnOk result (self.new ≡ learned items.now self.old) }
+        ensures { OnOk result (self.new ≡ with_communicators items.now self.old) }
     {
         learn_all(self.alloc, &mut self.made, items)
     }
@@ -477,7 +477,7 @@ fn push_firsts(cells: &mut Vec<i32>, kind: VariableKind, elements: u32) -> Resul
 
 /// The int of an argument; 0 where it is none.
 fn number_in(passed: Option<Passed>) -> i32
-    ensures { result ≡ number_in passed }
+    ensures { result ≡ passed_number passed }
 {
     match passed {
         Some(Passed::Number(value)) => value,

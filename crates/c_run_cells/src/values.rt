@@ -2,14 +2,14 @@
 ghost use Rattle.std.specs.Prelude.{◌≡◌, ◌≤◌, IfOk, option_copied, option_map};
 ghost use Rattle.mpi_call.specs.Operations.{int_of, is_set};
 ghost use Rattle.c_program.specs.Meaning.{passed, test};
-ghost use Rattle.c_program.specs.Values.{cell_of, chained, field_place, is_decided, operated, range, value};
+ghost use Rattle.c_program.specs.Values.{cell_of_place, value_with_links, field_place, is_decided, operated, range, value};
 ghost use Rattle.c_program.specs.View.{pure_argument, pure_expr, pure_links, pure_place, pure_reference};
 ghost use Rattle.c_run_cells.specs.Parts.{linked};
 
 use crate::state::RankState;
 use c_names::operator::{Operator, apply, apply_unary};
 use c_program::constants::MOST_CELLS;
-use c_program::expr::{Argument, Expr, Field, Link, Place, Reference};
+use c_program::expr::{Field, Reference, TypedArgument, TypedExpr, TypedLink, TypedPlace};
 use c_program::range::Range;
 use c_program::state::Passed;
 use mpi_call::call::Fault;
@@ -18,28 +18,28 @@ impl<'p> RankState<'p> {
     /// The value of an expression, or its fault. Takes no memory.
     #[cycle(value)]
     #[tactic(auto, using(c_program::proofs::Viewed::views))]
-    pub fn value(&self, expr: &Expr) -> Result<i32, Fault>
+    pub fn value(&self, expr: &TypedExpr) -> Result<i32, Fault>
         ensures { result ≡ value (pure_expr expr.now) self.now }
     {
         match expr {
-            Expr::Number(n) => Ok(*n),
-            Expr::Read(place) => {
+            TypedExpr::Number(n) => Ok(*n),
+            TypedExpr::Read(place) => {
                 let cell = self.cell_of(place)?;
                 Ok(self.cell(cell))
             }
-            Expr::Field { status, field } => {
+            TypedExpr::Field { status, field } => {
                 let cell = self.cell_of(status)?;
                 Ok(self.cell(cell + field_place(*field)))
             }
-            Expr::Signed { sign, operand } => {
+            TypedExpr::Signed { sign, operand } => {
                 let v = self.value(operand)?;
                 Ok(apply_unary(*sign, v))
             }
-            Expr::Chain { first, links } => {
+            TypedExpr::Chain { first, links } => {
                 let v = self.value(first)?;
                 self.chained(links, v)
             }
-            Expr::Choice { test, then, other } => {
+            TypedExpr::Choice { test, then, other } => {
                 let v = self.value(test)?;
                 if is_set(v) {
                     self.value(then)
@@ -52,8 +52,8 @@ impl<'p> RankState<'p> {
 
     /// What links make of the value before them.
     #[cycle(value)]
-    fn chained(&self, links: &[Link], first: i32) -> Result<i32, Fault>
-        ensures { result ≡ chained (pure_links links.now) first self.now }
+    fn chained(&self, links: &[TypedLink], first: i32) -> Result<i32, Fault>
+        ensures { result ≡ value_with_links (pure_links links.now) first self.now }
     {
         let mut v = first;
         for link in links {
@@ -63,7 +63,7 @@ impl<'p> RankState<'p> {
     }
 
     #[cycle(value)]
-    fn linked(&self, operator: Operator, operand: &Expr, v: i32) -> Result<i32, Fault>
+    fn linked(&self, operator: Operator, operand: &TypedExpr, v: i32) -> Result<i32, Fault>
         ensures { result ≡ linked operator (pure_expr operand.now) v self.now }
     {
         if is_decided(operator, v) {
@@ -76,16 +76,16 @@ impl<'p> RankState<'p> {
     /// The cell of a place.
     #[cycle(value)]
     #[tactic(auto, using(c_program::proofs::Viewed::views))]
-    pub fn cell_of(&self, place: &Place) -> Result<u32, Fault>
-        ensures value { result ≡ cell_of (pure_place place.now) self.now }
+    pub fn cell_of(&self, place: &TypedPlace) -> Result<u32, Fault>
+        ensures value { result ≡ cell_of_place (pure_place place.now) self.now }
         ensures bound { IfOk result (λ cell. cell ≤ MOST_CELLS) }
     {
         match place {
-            Place::Whole(variable) => {
+            TypedPlace::Whole(variable) => {
                 let cells = self.cells_of(*variable)?;
                 Ok(cells.from())
             }
-            Place::Element { variable, index } => {
+            TypedPlace::Element { variable, index } => {
                 let i = self.value(index)?;
                 let cells = self.cells_of(*variable)?;
                 cells.element(i)
@@ -94,7 +94,7 @@ impl<'p> RankState<'p> {
     }
 
     /// Whether an expression is other than 0; `None` is always so.
-    pub fn test(&self, condition: Option<&Expr>) -> Result<bool, Fault>
+    pub fn test(&self, condition: Option<&TypedExpr>) -> Result<bool, Fault>
         ensures { result ≡ test (option_map pure_expr (option_copied condition.entry)) self.now }
     {
         match condition {
@@ -121,15 +121,15 @@ impl<'p> RankState<'p> {
         }
     }
 
-    pub fn passed(&self, argument: &Argument) -> Result<Passed, Fault>
+    pub fn passed(&self, argument: &TypedArgument) -> Result<Passed, Fault>
         ensures { result ≡ passed (pure_argument argument.now) self.now }
     {
         match argument {
-            Argument::Value(e) => {
+            TypedArgument::Value(e) => {
                 let v = self.value(e)?;
                 Ok(Passed::Number(v))
             }
-            Argument::Reference(reference) => {
+            TypedArgument::Reference(reference) => {
                 let cells = self.range(reference)?;
                 Ok(Passed::Cells(cells))
             }

@@ -2,9 +2,9 @@
 ghost use Rattle.std.specs.Prelude.{◌≡◌, IfErr, IfOk, Err, Ok};
 ghost use Rattle.c_program.specs.Values.{range, value};
 ghost use Rattle.c_program.specs.View.{pure_expr, pure_reference};
-ghost use Rattle.c_run_effects.specs.Faults.{HasFault};
+ghost use Rattle.c_run_effects.specs.inside.Faults.{HasFault};
 
-use c_program::expr::Expr;
+use c_program::expr::TypedExpr;
 use c_program::mpi::{Buffer, Reduction};
 use c_program::range::Range;
 use c_run_cells::state::RankState;
@@ -12,7 +12,7 @@ use mpi_call::call::Fault;
 
 /// The cells of a buffer, and how many ints are meant.
 #[derive(Clone, Copy)]
-pub struct Ints {
+pub struct BufferInts {
     pub cells: Range,
     pub count: i32,
 }
@@ -42,14 +42,14 @@ pub struct Envelope {
     pub comm: i32,
 }
 
-pub fn ints_of(buffer: &Buffer, state: &RankState) -> Result<Ints, Fault>
+pub fn ints_of(buffer: &Buffer, state: &RankState) -> Result<BufferInts, Fault>
     ensures cells { IfOk result (λ ints. range (pure_reference buffer.now.cells) state.now ≡ Ok ints.cells) }
     ensures count { IfOk result (λ ints. value (pure_expr buffer.now.count) state.now ≡ Ok ints.count) }
     ensures fault { IfErr result (λ fault. HasFault fault (range (pure_reference buffer.now.cells) state.now) (λ _. value (pure_expr buffer.now.count) state.now ≡ Err fault)) }
 {
     let cells = state.range(&buffer.cells)?;
     let count = state.value(&buffer.count)?;
-    Ok(Ints { cells, count })
+    Ok(BufferInts { cells, count })
 }
 
 pub fn buffers_of(out: &Buffer, buffer: &Buffer, state: &RankState) -> Result<Buffers, Fault>
@@ -93,9 +93,9 @@ pub fn operands_of(reduction: &Reduction, state: &RankState) -> Result<Operands,
 }
 
 pub fn envelope_of(
-    rank: &Expr,
-    tag: &Expr,
-    comm: &Expr,
+    rank: &TypedExpr,
+    tag: &TypedExpr,
+    comm: &TypedExpr,
     state: &RankState,
 ) -> Result<Envelope, Fault>
     ensures rank { IfOk result (λ envelope. value (pure_expr rank.now) state.now ≡ Ok envelope.rank) }

@@ -1,10 +1,10 @@
 //! The checks of an MPI call's counts, colours, tags and elements.
 ghost use Rattle.std.specs.Prelude.{◌≡◌, ◌≤◌, IfOk, IfSome, option_map};
-ghost use Rattle.c_program.specs.Effects.{cell, colour, count_in, count_of, enters, first, gets, handles_of, optional, same_count, status, tag_of, wanted_tag};
+ghost use Rattle.c_program.specs.Effects.{cell_of_answer, colour, status_count, count_of, enters, first_of_range, gets, handles_of, optional, same_count, status, tag_of, wanted_tag};
 ghost use Rattle.c_program.specs.View.{pure_reference};
 
 use c_program::constants::{MOST_CELLS, NULL};
-use c_program::effect::{Entered, Into};
+use c_program::effect::{EnterInput, Into};
 use c_program::expr::Reference;
 use c_program::range::Range;
 use c_run_cells::state::RankState;
@@ -92,7 +92,7 @@ pub fn wanted_tag(tag: i32) -> Result<Tag, Fault>
 
 /// The first elements of a range; OutOfBounds where it has fewer.
 pub fn first(n: usize, cells: Range) -> Result<Range, Fault>
-    ensures { result ≡ first n cells }
+    ensures { result ≡ first_of_range n cells }
 {
     if n <= cells.length() as usize {
         cells.first(n as u32)
@@ -103,8 +103,8 @@ pub fn first(n: usize, cells: Range) -> Result<Range, Fault>
 
 /// The cell of a single answer.
 pub fn cell(cells: Range) -> Result<u32, Fault>
-    ensures cell { result ≡ cell cells }
-    ensures bound { IfOk result (λ cell. cell ≤ MOST_CELLS) }
+    ensures cell { result ≡ cell_of_answer cells }
+    ensures bound { IfOk result (λ cell_of_answer. cell_of_answer ≤ MOST_CELLS) }
 {
     let one = first(1, cells)?;
     Ok(one.from())
@@ -121,8 +121,8 @@ pub fn status(given: &Option<Reference>, state: &RankState) -> Result<Option<Ran
 }
 
 pub fn optional_cell(cells: Option<Range>) -> Result<Option<u32>, Fault>
-    ensures cell { result ≡ optional cell cells }
-    ensures bound { IfOk result (λ found. IfSome found (λ cell. cell ≤ MOST_CELLS)) }
+    ensures cell { result ≡ optional cell_of_answer cells }
+    ensures bound { IfOk result (λ found. IfSome found (λ cell_of_answer. cell_of_answer ≤ MOST_CELLS)) }
 {
     match cells {
         Some(cells) => Ok(Some(cell(cells)?)),
@@ -131,7 +131,7 @@ pub fn optional_cell(cells: Option<Range>) -> Result<Option<u32>, Fault>
 }
 
 pub fn optional_first(n: u32, cells: Option<Range>) -> Result<Option<Range>, Fault>
-    ensures { result ≡ optional (first n) cells }
+    ensures { result ≡ optional (first_of_range n) cells }
 {
     match cells {
         Some(cells) => Ok(Some(cells.first(n)?)),
@@ -141,8 +141,8 @@ pub fn optional_first(n: u32, cells: Option<Range>) -> Result<Option<Range>, Fau
 
 /// The count of a status, 0 where it was ignored.
 pub fn count_in(status: Option<u32>, state: &RankState) -> i32
-    requires { IfSome status (λ cell. cell ≤ MOST_CELLS) }
-    ensures { result ≡ count_in status state.now }
+    requires { IfSome status (λ cell_of_answer. cell_of_answer ≤ MOST_CELLS) }
+    ensures { result ≡ status_count status state.now }
 {
     match status {
         Some(cell) => state.cell(cell + 2),
@@ -151,10 +151,10 @@ pub fn count_in(status: Option<u32>, state: &RankState) -> i32
 }
 
 /// What a member enters.
-pub fn enters(n: usize, cells: Range) -> Result<Entered, Fault>
+pub fn enters(n: usize, cells: Range) -> Result<EnterInput, Fault>
     ensures { result ≡ enters n cells }
 {
-    Ok(Entered::Cells(first(n, cells)?))
+    Ok(EnterInput::Cells(first(n, cells)?))
 }
 
 /// Where what it gets goes.

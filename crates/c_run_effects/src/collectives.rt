@@ -1,18 +1,18 @@
 //! Collectives.
 ghost use Rattle.std.specs.Prelude.{◌≡◌, ◌≤◌, ℤ, IfErr, IfOk, Err, None, Ok};
-ghost use Rattle.c_program.specs.declared.effect.Entered.TheVariants.{Nothing as EntersNothing};
+ghost use Rattle.c_program.specs.declared.effect.EnterInput.TheVariants.{Nothing as EntersNothing};
 ghost use Rattle.c_program.specs.declared.effect.Into.TheVariants.{Nowhere};
 ghost use Rattle.c_program.specs.Tree as t;
 ghost use Rattle.c_program.specs.Effects.{at_root, collective_effect, communicator_of, count_of, enters, gets, reduces_for_all, same_count};
 ghost use Rattle.c_program.specs.Values.{value};
 ghost use Rattle.c_program.specs.View.{pure_buffer, pure_collective, pure_expr, pure_reduction};
-ghost use Rattle.c_run_effects.specs.Faults.{HasFault};
+ghost use Rattle.c_run_effects.specs.inside.Faults.{HasFault};
 
 use crate::arguments::{buffers_of, ints_of, operands_of};
 use crate::checks::{count_of, enters, gets, same_count};
 use crate::comm::{Communicator, communicator_of, is_me};
-use c_program::effect::{Collective, Effect, Entered, Into, Rank};
-use c_program::expr::Expr;
+use c_program::effect::{Collective, Effect, EnterInput, Into, Rank};
+use c_program::expr::TypedExpr;
 use c_program::mpi::{Buffer, CollectiveCall, Reduction};
 use c_program::range::Range;
 use c_run_cells::state::RankState;
@@ -24,7 +24,7 @@ pub fn joined(
     comm: &Communicator,
     kind: Kind,
     count: u32,
-    entered: Entered,
+    entered: EnterInput,
     into: Into,
 ) -> Collective
     ensures { result ≡ record { comm = comm.now.number; kind = kind; root = None; op = None; count = count; entered = entered; into = into } }
@@ -41,7 +41,11 @@ pub fn joined(
 }
 
 /// The communicator of an expression.
-fn comm_of<'a>(rank: Rank, comm: &Expr, state: &'a RankState) -> Result<Communicator<'a>, Fault>
+fn comm_of<'a>(
+    rank: Rank,
+    comm: &TypedExpr,
+    state: &'a RankState,
+) -> Result<Communicator<'a>, Fault>
     requires { rank.ranks ≤ MOST_RANKS }
     ensures comm { IfOk result (λ found. (number : ℤ) × (value (pure_expr comm.now) state.now ≡ Ok number) × (communicator_of rank state.now number ≡ Ok found)) }
     ensures fault { IfErr result (λ fault. HasFault fault (value (pure_expr comm.now) state.now) (λ number. communicator_of rank state.now number ≡ Err fault)) }
@@ -66,13 +70,13 @@ fn count_for_both(checks: bool, count: i32, other: i32) -> Result<u32, Fault>
     }
 }
 
-fn enters_at_root(is_root: bool, n: usize, cells: Range) -> Result<Entered, Fault>
+fn enters_at_root(is_root: bool, n: usize, cells: Range) -> Result<EnterInput, Fault>
     ensures { result ≡ at_root is_root EntersNothing (enters n cells) }
 {
     if is_root {
         enters(n, cells)
     } else {
-        Ok(Entered::Nothing)
+        Ok(EnterInput::Nothing)
     }
 }
 
@@ -89,20 +93,20 @@ fn gets_at_root(is_root: bool, n: usize, cells: Range) -> Result<Into, Fault>
 // ---- collectives
 
 /// `MPI_Barrier`.
-fn barrier(rank: Rank, comm: &Expr, state: &RankState) -> Result<Effect, Fault>
+fn barrier(rank: Rank, comm: &TypedExpr, state: &RankState) -> Result<Effect, Fault>
     requires { rank.ranks ≤ MOST_RANKS }
     ensures { result ≡ collective_effect rank (t.barrier (pure_expr comm.now)) state.now }
 {
     let comm = comm_of(rank, comm, state)?;
-    Ok(Effect::Joins(joined(&comm, Kind::Barrier, 0, Entered::Nothing, Into::Nowhere)))
+    Ok(Effect::Joins(joined(&comm, Kind::Barrier, 0, EnterInput::Nothing, Into::Nowhere)))
 }
 
 /// `MPI_Bcast`.
 fn bcast(
     rank: Rank,
     buffer: &Buffer,
-    root: &Expr,
-    comm: &Expr,
+    root: &TypedExpr,
+    comm: &TypedExpr,
     state: &RankState,
 ) -> Result<Effect, Fault>
     requires { rank.ranks ≤ MOST_RANKS }
@@ -115,9 +119,9 @@ fn bcast(
     let root = comm.member(root)?;
     let cells = ints.cells.first(count)?;
     let entered = if is_me(rank, root) {
-        Entered::Cells(cells)
+        EnterInput::Cells(cells)
     } else {
-        Entered::Nothing
+        EnterInput::Nothing
     };
     Ok(Effect::Joins(Collective {
         root: Some(root),
@@ -130,8 +134,8 @@ fn gather(
     rank: Rank,
     out: &Buffer,
     buffer: &Buffer,
-    root: &Expr,
-    comm: &Expr,
+    root: &TypedExpr,
+    comm: &TypedExpr,
     state: &RankState,
 ) -> Result<Effect, Fault>
     requires { rank.ranks ≤ MOST_RANKS }
@@ -155,8 +159,8 @@ fn scatter(
     rank: Rank,
     out: &Buffer,
     buffer: &Buffer,
-    root: &Expr,
-    comm: &Expr,
+    root: &TypedExpr,
+    comm: &TypedExpr,
     state: &RankState,
 ) -> Result<Effect, Fault>
     requires { rank.ranks ≤ MOST_RANKS }
@@ -180,7 +184,7 @@ fn allgather(
     rank: Rank,
     out: &Buffer,
     buffer: &Buffer,
-    comm: &Expr,
+    comm: &TypedExpr,
     state: &RankState,
 ) -> Result<Effect, Fault>
     requires { rank.ranks ≤ MOST_RANKS }
@@ -199,7 +203,7 @@ fn alltoall(
     rank: Rank,
     out: &Buffer,
     buffer: &Buffer,
-    comm: &Expr,
+    comm: &TypedExpr,
     state: &RankState,
 ) -> Result<Effect, Fault>
     requires { rank.ranks ≤ MOST_RANKS }
@@ -217,8 +221,8 @@ fn alltoall(
 fn reduce(
     rank: Rank,
     reduction: &Reduction,
-    root: &Expr,
-    comm: &Expr,
+    root: &TypedExpr,
+    comm: &TypedExpr,
     state: &RankState,
 ) -> Result<Effect, Fault>
     requires { rank.ranks ≤ MOST_RANKS }
@@ -243,7 +247,7 @@ fn reduces_for_all(
     rank: Rank,
     kind: Kind,
     reduction: &Reduction,
-    comm: &Expr,
+    comm: &TypedExpr,
     state: &RankState,
 ) -> Result<Effect, Fault>
     requires { rank.ranks ≤ MOST_RANKS }

@@ -82,7 +82,7 @@ impl<'a> Communicator<'a> {
 
     /// A rank of the world as one of the communicator; `MPI_UNDEFINED` where it is no member.
     pub fn rank_of(&self, world_rank: u8) -> i32
-        ensures { result ≡ effects.rank_in self.now.members world_rank }
+        ensures { result ≡ effects.rank_among self.now.members world_rank }
     {
         match place_of(self.members, world_rank) {
             Some(place) => place as i32,
@@ -128,7 +128,7 @@ impl<'a> Communicator<'a> {
 
     /// Whether the rank that runs is this root, which isn't checked yet.
     pub fn is_root(&self, rank: Rank, root: i32) -> bool
-        ensures { result ≡ effects.is_root rank self.now root }
+        ensures { result ≡ effects.is_given_root rank self.now root }
     {
         if root < 0 {
             return false;
@@ -141,7 +141,7 @@ impl<'a> Communicator<'a> {
 
     /// So many elements for each member.
     pub fn pieces(&self, count: u32) -> usize
-        ensures { result ≡ effects.pieces self.now count }
+        ensures { result ≡ effects.ints_for_all_members self.now count }
     {
         self.members.len() * count as usize
     }

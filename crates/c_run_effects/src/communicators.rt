@@ -9,15 +9,20 @@ use crate::checks::{cell, colour};
 use crate::collectives::joined;
 use crate::comm::communicator_of;
 use c_program::constants::NULL;
-use c_program::effect::{Effect, Entered, Into, Rank};
-use c_program::expr::{Expr, Reference};
+use c_program::effect::{Effect, EnterInput, Into, Rank};
+use c_program::expr::{Reference, TypedExpr};
 use c_program::mpi::CommunicatorCall;
 use c_run_cells::state::RankState;
 use mpi_call::call::{Fault, Kind};
 use mpi_call::limits::MOST_RANKS;
 
 /// `MPI_Comm_size`.
-fn comm_size(rank: Rank, comm: &Expr, into: &Reference, state: &RankState) -> Result<Effect, Fault>
+fn comm_size(
+    rank: Rank,
+    comm: &TypedExpr,
+    into: &Reference,
+    state: &RankState,
+) -> Result<Effect, Fault>
     requires { rank.ranks ≤ MOST_RANKS }
     ensures { result ≡ communicator_effect rank (t.comm_size (pure_expr comm.now) (pure_reference into.now)) state.now }
 {
@@ -32,7 +37,12 @@ fn comm_size(rank: Rank, comm: &Expr, into: &Reference, state: &RankState) -> Re
 }
 
 /// `MPI_Comm_rank`.
-fn comm_rank(rank: Rank, comm: &Expr, into: &Reference, state: &RankState) -> Result<Effect, Fault>
+fn comm_rank(
+    rank: Rank,
+    comm: &TypedExpr,
+    into: &Reference,
+    state: &RankState,
+) -> Result<Effect, Fault>
     requires { rank.ranks ≤ MOST_RANKS }
     ensures { result ≡ communicator_effect rank (t.comm_rank (pure_expr comm.now) (pure_reference into.now)) state.now }
 {
@@ -47,7 +57,12 @@ fn comm_rank(rank: Rank, comm: &Expr, into: &Reference, state: &RankState) -> Re
 }
 
 /// `MPI_Comm_dup`.
-fn comm_dup(rank: Rank, comm: &Expr, into: &Reference, state: &RankState) -> Result<Effect, Fault>
+fn comm_dup(
+    rank: Rank,
+    comm: &TypedExpr,
+    into: &Reference,
+    state: &RankState,
+) -> Result<Effect, Fault>
     requires { rank.ranks ≤ MOST_RANKS }
     ensures { result ≡ communicator_effect rank (t.comm_dup (pure_expr comm.now) (pure_reference into.now)) state.now }
 {
@@ -55,15 +70,15 @@ fn comm_dup(rank: Rank, comm: &Expr, into: &Reference, state: &RankState) -> Res
     let into = state.range(into)?;
     let comm = communicator_of(rank, state, comm)?;
     let into = cell(into)?;
-    Ok(Effect::Joins(joined(&comm, Kind::Dup, 0, Entered::Nothing, Into::Handle(into))))
+    Ok(Effect::Joins(joined(&comm, Kind::Dup, 0, EnterInput::Nothing, Into::Handle(into))))
 }
 
 /// `MPI_Comm_split`.
 fn comm_split(
     rank: Rank,
-    comm: &Expr,
-    color: &Expr,
-    key: &Expr,
+    comm: &TypedExpr,
+    color: &TypedExpr,
+    key: &TypedExpr,
     into: &Reference,
     state: &RankState,
 ) -> Result<Effect, Fault>
@@ -81,7 +96,7 @@ fn comm_split(
         &comm,
         Kind::Split,
         0,
-        Entered::Pair(color, key),
+        EnterInput::Pair(color, key),
         Into::Handle(into),
     )))
 }

@@ -5,18 +5,18 @@ ghost use Rattle.c_program.specs.Effects.{answers, completes_some, completion_ef
 ghost use Rattle.c_program.specs.View.{pure_completion, pure_expr, pure_reference, pure_several};
 
 use crate::checks::{cell, handles_of, optional_first, status};
-use c_program::effect::{Answer, Effect};
-use c_program::expr::{Expr, Reference};
+use c_program::effect::{AnswerCells, Effect};
+use c_program::expr::{Reference, TypedExpr};
 use c_program::mpi::{CompletionCall, SomeRequests};
 use c_program::range::Range;
 use c_run_cells::state::RankState;
 use mpi_call::call::{Fault, TakeMode};
 
 /// Nothing but statuses.
-fn answers(statuses: Option<Range>) -> Answer
+fn answers(statuses: Option<Range>) -> AnswerCells
     ensures { result ≡ record answers { statuses = statuses } }
 {
-    Answer {
+    AnswerCells {
         flag: None,
         index: None,
         outcount: None,
@@ -58,7 +58,7 @@ fn test(
     Ok(Effect::Completes {
         requests,
         mode: TakeMode::TestAll,
-        answer: Answer {
+        answer: AnswerCells {
             flag: Some(flag),
             ..answers(statuses)
         },
@@ -67,7 +67,7 @@ fn test(
 
 /// `MPI_Waitany`.
 fn waitany(
-    count: &Expr,
+    count: &TypedExpr,
     requests: &Reference,
     index: &Reference,
     kept: &Option<Reference>,
@@ -86,7 +86,7 @@ fn waitany(
     Ok(Effect::Completes {
         requests,
         mode: TakeMode::Any,
-        answer: Answer {
+        answer: AnswerCells {
             index: Some(index),
             ..answers(statuses)
         },
@@ -95,7 +95,7 @@ fn waitany(
 
 /// `MPI_Testany`.
 fn testany(
-    count: &Expr,
+    count: &TypedExpr,
     requests: &Reference,
     index: &Reference,
     flag: &Reference,
@@ -117,7 +117,7 @@ fn testany(
     Ok(Effect::Completes {
         requests,
         mode: TakeMode::TestAny,
-        answer: Answer {
+        answer: AnswerCells {
             index: Some(index),
             flag: Some(flag),
             ..answers(statuses)
@@ -127,7 +127,7 @@ fn testany(
 
 /// `MPI_Waitall`.
 fn waitall(
-    count: &Expr,
+    count: &TypedExpr,
     requests: &Reference,
     kept: &Option<Reference>,
     state: &RankState,
@@ -149,7 +149,7 @@ fn waitall(
 
 /// `MPI_Testall`.
 fn testall(
-    count: &Expr,
+    count: &TypedExpr,
     requests: &Reference,
     flag: &Reference,
     kept: &Option<Reference>,
@@ -168,7 +168,7 @@ fn testall(
     Ok(Effect::Completes {
         requests,
         mode: TakeMode::TestAll,
-        answer: Answer {
+        answer: AnswerCells {
             flag: Some(flag),
             ..answers(statuses)
         },
@@ -196,7 +196,7 @@ fn completes_some(
     Ok(Effect::Completes {
         requests,
         mode,
-        answer: Answer {
+        answer: AnswerCells {
             outcount: Some(outcount),
             indices: Some(indices),
             ..answers(statuses)

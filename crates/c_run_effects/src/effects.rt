@@ -11,14 +11,14 @@ use crate::completions::completion_effect;
 use crate::messages::message_effect;
 use crate::probes::probe_effect;
 use c_program::effect::{Effect, Rank};
-use c_program::expr::Expr;
+use c_program::expr::TypedExpr;
 use c_program::mpi::MpiCall;
 use c_run_cells::state::RankState;
 use mpi_call::call::Fault;
 use mpi_call::limits::MOST_RANKS;
 
 /// `MPI_Abort`.
-fn abort(rank: Rank, comm: &Expr, code: &Expr, state: &RankState) -> Result<Effect, Fault>
+fn abort(rank: Rank, comm: &TypedExpr, code: &TypedExpr, state: &RankState) -> Result<Effect, Fault>
     requires { rank.ranks ≤ MOST_RANKS }
     ensures { result ≡ effect_of rank (t.abort (pure_expr comm.now) (pure_expr code.now)) state.now }
 {

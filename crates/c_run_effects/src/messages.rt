@@ -8,7 +8,7 @@ use crate::arguments::{envelope_of, ints_of};
 use crate::checks::{cell, count_of, optional_cell, status, tag_of, wanted_tag};
 use crate::comm::{Communicator, communicator_of};
 use c_program::effect::{Effect, Message, Rank, Receive, Start};
-use c_program::expr::{Expr, Reference};
+use c_program::expr::{Reference, TypedExpr};
 use c_program::mpi::{Incoming, MessageCall, Outgoing};
 use c_program::range::Range;
 use c_run_cells::state::RankState;
@@ -86,7 +86,7 @@ fn send_after(comm: &Communicator, dest: Option<u8>, tag: u32, ints: Range) -> O
 fn send(
     rank: Rank,
     outgoing: &Outgoing,
-    comm: &Expr,
+    comm: &TypedExpr,
     sync: bool,
     state: &RankState,
 ) -> Result<Effect, Fault>
@@ -107,7 +107,7 @@ fn send(
 fn recv(
     rank: Rank,
     incoming: &Incoming,
-    comm: &Expr,
+    comm: &TypedExpr,
     kept: &Option<Reference>,
     state: &RankState,
 ) -> Result<Effect, Fault>
@@ -134,7 +134,7 @@ fn recv(
 fn isend(
     rank: Rank,
     outgoing: &Outgoing,
-    comm: &Expr,
+    comm: &TypedExpr,
     request: &Reference,
     sync: bool,
     state: &RankState,
@@ -158,7 +158,7 @@ fn isend(
 fn irecv(
     rank: Rank,
     incoming: &Incoming,
-    comm: &Expr,
+    comm: &TypedExpr,
     request: &Reference,
     state: &RankState,
 ) -> Result<Effect, Fault>
@@ -185,7 +185,7 @@ fn sendrecv(
     rank: Rank,
     outgoing: &Outgoing,
     incoming: &Incoming,
-    comm: &Expr,
+    comm: &TypedExpr,
     kept: &Option<Reference>,
     state: &RankState,
 ) -> Result<Effect, Fault>

@@ -9,7 +9,7 @@ use crate::arguments::envelope_of;
 use crate::checks::{cell, count_in, optional_cell, status, wanted_tag};
 use crate::comm::communicator_of;
 use c_program::effect::{Effect, Rank};
-use c_program::expr::{Expr, Reference};
+use c_program::expr::{Reference, TypedExpr};
 use c_program::mpi::ProbeCall;
 use c_run_cells::state::RankState;
 use mpi_call::call::Fault;
@@ -18,9 +18,9 @@ use mpi_call::limits::MOST_RANKS;
 /// The envelope of the messages that a probe looks for (MPI 3.1, 3.2.3).
 #[derive(Drop)]
 struct Wanted<'a> {
-    source: &'a Expr,
-    tag: &'a Expr,
-    comm: &'a Expr,
+    source: &'a TypedExpr,
+    tag: &'a TypedExpr,
+    comm: &'a TypedExpr,
 }
 
 /// `MPI_Probe`.

@@ -9,10 +9,10 @@ use Rattle.mpi_call.specs.declared.reply.Reply.TheVariants.{Done, Took, NotYet, 
 use Rattle.c_program.specs.Courses.{trapped}
 use Rattle.c_program.specs.declared.effect.Into.{Into}
 use Rattle.c_program.specs.declared.effect.Into.TheVariants.{Nowhere, Cells as IntoCells, Handle}
-use Rattle.c_program.specs.Performing.{Onward, begun, completed, or_trap, probed, put_result, put_status, stands}
+use Rattle.c_program.specs.Performing.{Onward, begun, completed, or_trap, probed, put_result, put_status, has_cells_for}
 use Rattle.c_program.specs.State.{State, put, put_all, put_some}
 use Rattle.c_program.specs.declared.state.Begun.{Begun}
-use Rattle.c_run_replies.specs.Left.{IsLeft}
+use Rattle.c_run_replies.specs.Left.{IsChanged}
 
 -- beyond the cells nothing changes
 put-beyond : (cell : ℕ) (value : ℤ) (s : State) → length s.cells ≤ cell → put cell value s ≡ s
@@ -36,7 +36,7 @@ left-put_status None source tag count s = refl
 left-put_status (Some at) source tag count s = refl
 
 -- the same of a change that may fail
-pub left-is : (o : Option State) (s t : State) (done : Bool) → ((u : State) → o ≡ Some u → u.left ≡ s.left) → IsLeft o s t done → t.left ≡ s.left
+pub left-is : (o : Option State) (s t : State) (done : Bool) → ((u : State) → o ≡ Some u → u.left ≡ s.left) → IsChanged o s t done → t.left ≡ s.left
 left-is None s t done keeps h = ap (λ s. s.left) h.1
 left-is (Some u) s t done keeps h = ap (λ s. s.left) h.1 ∙ keeps u refl
 
@@ -51,19 +51,19 @@ pub left-completed : (n : ℕ) (start : Begun) (status : Option ℕ) (got : Got)
 left-completed n start status Sent s u e = some-is _ u s.left e (left-put_status status _ _ _ s)
 left-completed n start status Nothing s u e = some-is _ u s.left e (left-put_status status _ _ _ s)
 left-completed n start status (Message source number tag ints) s u e =
-    if-some (stands start.buffer ints s) _ u s.left e (left-put_status status _ _ _ (put_all start.buffer.from ints s) ∙ left-put_all start.buffer.from ints s)
+    if-some (has_cells_for start.buffer ints s) _ u s.left e (left-put_status status _ _ _ (put_all start.buffer.from ints s) ∙ left-put_all start.buffer.from ints s)
 left-completed n start status (Joined ints) s u e = some-is _ u s.left e (left-put_status status _ _ _ s)
 left-completed n start status (Made comm members) s u e = some-is _ u s.left e (left-put_status status _ _ _ s)
 
-pub completed-left : (n : ℕ) (start : Begun) (status : Option ℕ) (got : Got) (s t : State) (done : Bool) → IsLeft (completed n start status got s) s t done → t.left ≡ s.left
+pub completed-left : (n : ℕ) (start : Begun) (status : Option ℕ) (got : Got) (s t : State) (done : Bool) → IsChanged (completed n start status got s) s t done → t.left ≡ s.left
 completed-left n start status got s t done h = left-is (completed n start status got s) s t done (λ u e. left-completed n start status got s u e) h
 
 -- going on where the change is done, and the trap where it is not
-pub done-goes : (o : Option State) (s t : State) (done : Bool) (go : Onward) → IsLeft o s t done → done ≡ true → or_trap o s go ≡ go t
+pub done-goes : (o : Option State) (s t : State) (done : Bool) (go : Onward) → IsChanged o s t done → done ≡ true → or_trap o s go ≡ go t
 done-goes None s t done go h e = absurd (cc)
 done-goes (Some u) s t done go h e = ap go (sym h.1)
 
-pub fails-trapped : (o : Option State) (s t : State) (done : Bool) (go : Onward) → IsLeft o s t done → done ≡ false → or_trap o s go ≡ trapped OutOfBounds t
+pub fails-trapped : (o : Option State) (s t : State) (done : Bool) (go : Onward) → IsChanged o s t done → done ≡ false → or_trap o s go ≡ trapped OutOfBounds t
 fails-trapped None s t done go h e = ap (λ s. trapped OutOfBounds s) (sym h.1)
 fails-trapped (Some u) s t done go h e = absurd (cc)
 

@@ -7,24 +7,24 @@ use Rattle.mpi_call.specs.declared.call.Source.{Source}
 use Rattle.mpi_call.specs.declared.call.Source.TheVariants.{Null}
 use Rattle.mpi_call.specs.declared.call.TakeMode.{TakeMode}
 use Rattle.mpi_call.specs.declared.reply.Got.{Got}
-use Rattle.c_program.specs.declared.effect.Answer.{Answer}
+use Rattle.c_program.specs.declared.effect.AnswerCells.{AnswerCells}
 use Rattle.c_program.specs.Cells.{Cells}
-use Rattle.c_program.specs.Performing.{Active, item_completed}
+use Rattle.c_program.specs.Performing.{Active, Completing, item_completed}
 use Rattle.c_program.specs.State.{State, null, put}
 
 -- whether there is a state that a change leads to; else the state stays as it was
-abbrev pub IsLeft : Option State → State → State → Bool → Type 0
-IsLeft None s t done = (done ≡ false) × (t ≡ s)
-IsLeft (Some u) s t done = (done ≡ true) × (t ≡ u)
+abbrev pub IsChanged : Option State → State → State → Bool → Type 0
+IsChanged None s t done = (done ≡ false) × (t ≡ s)
+IsChanged (Some u) s t done = (done ≡ true) × (t ≡ u)
 
 -- an item's message and status, and null in its handle
-abbrev pub item_put : ℕ → Cells → TakeMode → Answer → Active → ℕ → Got → State → Option State
-item_put n requests mode answer one number got s = option_map (put (requests.from + one.place) null) (item_completed n mode answer one number got s)
+abbrev pub item_put : Completing → Active → ℕ → Got → State → Option State
+item_put call one number got s = option_map (put (call.requests.from + one.place) null) (item_completed call one number got s)
 
 -- `MPI_PROC_NULL`
-abbrev pub is_null : Source → Bool
-is_null Null = true
-is_null source = false
+abbrev pub is_null_source : Source → Bool
+is_null_source Null = true
+is_null_source source = false
 
 -- goes on where cells stand, or traps
 abbrev pub if_stood : Bool → Passing

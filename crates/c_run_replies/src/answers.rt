@@ -1,10 +1,10 @@
 //! What the replies to an effect's calls change.
 ghost use Rattle.std.specs.Prelude.{◌≡◌, ◌≤◌, ◌==◌, IfOk, OnOk, Some, if◌then◌else◌, option_map, pos};
 ghost use Rattle.std.specs.List.{position};
-ghost use Rattle.c_program.specs.Performing.{completed, probed, put_empty, put_nothing, put_result, put_status, source_in, stands};
+ghost use Rattle.c_program.specs.Performing.{completed, probed, put_empty, put_nothing, put_result, put_status, source_in, has_cells_for};
 ghost use Rattle.c_program.specs.State.{null, put, put_all, put_some};
 ghost use Rattle.c_program.specs.declared.effect.Into.TheVariants.{Cells as IntoCells, Handle};
-ghost use Rattle.c_run_replies.specs.Left.{IsLeft};
+ghost use Rattle.c_run_replies.specs.Left.{IsChanged};
 
 use c_program::constants::{ANY_SOURCE, INT_LIMIT, NULL};
 use c_program::effect::{Into, Rank};
@@ -111,7 +111,7 @@ fn source_in(rank: Rank, comm: u32, source: u8, state: &RankState) -> Result<i32
 
 /// Whether the cells that the ints of a message go to stand.
 fn stands(buffer: Range, ints: &[i32], state: &RankState) -> bool
-    ensures { result ≡ stands buffer ints.now state.now }
+    ensures { result ≡ has_cells_for buffer ints.now state.now }
 {
     ints.is_empty() || buffer.from() as usize + ints.len() <= state.height()
 }
@@ -126,7 +126,7 @@ pub fn completed(
     state: &mut RankState,
 ) -> Result<bool, AllocError>
     requires { rank.ranks ≤ MOST_RANKS }
-    ensures { IfOk result (λ done. IsLeft (completed rank.ranks start status got.now state.old) state.old state.new done) }
+    ensures { IfOk result (λ done. IsChanged (completed rank.ranks start status got.now state.old) state.old state.new done) }
 {
     match got {
         Got::Message {

@@ -3,7 +3,7 @@ ghost use Rattle.std.specs.Prelude.{◌≡◌, ◌≤◌, IfOk, OnOk};
 ghost use Rattle.c_program.specs.declared.effect.Effect.TheVariants.{Completes, Probes};
 ghost use Rattle.c_program.specs.declared.effect.Rank.{Rank};
 ghost use Rattle.c_program.specs.Performing.{Onward, perform};
-ghost use Rattle.c_run_replies.specs.Left.{is_null};
+ghost use Rattle.c_run_replies.specs.Left.{is_null_source};
 ghost use Rattle.c_run_replies.specs.Questions.{reached};
 
 use crate::answers::{put_nothing, put_some, status_cell};
@@ -85,7 +85,7 @@ fn completing(
 
 /// Whether a source is `MPI_PROC_NULL`.
 fn is_null(source: Source) -> bool
-    ensures { result ≡ is_null source }
+    ensures { result ≡ is_null_source source }
 {
     matches!(source, Source::Null)
 }

@@ -2,11 +2,11 @@
 ghost use Rattle.std.specs.Prelude.{◌≡◌, IfOk};
 ghost use Rattle.c_program.specs.Performing.{enter_call, entered_ints, post_call, send_call, start_call, take_one};
 ghost use Rattle.c_program.specs.declared.effect.Collective.{Collective};
-ghost use Rattle.c_run_replies.specs.Questions.{call_of};
+ghost use Rattle.c_run_replies.specs.Questions.{question_call};
 
 use crate::completion::take_call;
 use crate::question::Question;
-use c_program::effect::{Collective, Entered, Message, Receive, Start};
+use c_program::effect::{Collective, EnterInput, Message, Receive, Start};
 use c_run_cells::state::RankState;
 use mpi_call::call::{Call, TakeMode};
 use mpi_call::lists::{Ints, Starts};
@@ -14,7 +14,7 @@ use std::alloc::{AllocError, Global};
 
 /// The call of a question.
 pub fn call_of(alloc: Global, question: &Question, state: &RankState) -> Result<Call, AllocError>
-    ensures { IfOk result (λ call. call ≡ call_of question.now state.now) }
+    ensures { IfOk result (λ call. call ≡ question_call question.now state.now) }
 {
     match question {
         Question::Starts { start, .. } => start_call(alloc, start, state),
@@ -90,13 +90,13 @@ fn start_call(alloc: Global, start: &Start, state: &RankState) -> Result<Call, A
 }
 
 /// What a member enters.
-fn entered_ints(alloc: Global, entered: &Entered, state: &RankState) -> Result<Ints, AllocError>
+fn entered_ints(alloc: Global, entered: &EnterInput, state: &RankState) -> Result<Ints, AllocError>
     ensures { IfOk result (λ ints. ints ≡ entered_ints entered.now state.now) }
 {
     match entered {
-        Entered::Nothing => Ok(Ints::new(alloc)),
-        Entered::Cells(cells) => state.ints_in(alloc, *cells),
-        Entered::Pair(colour, key) => Ints::from_slice(alloc, &[*colour, *key]),
+        EnterInput::Nothing => Ok(Ints::new(alloc)),
+        EnterInput::Cells(cells) => state.ints_in(alloc, *cells),
+        EnterInput::Pair(colour, key) => Ints::from_slice(alloc, &[*colour, *key]),
     }
 }
 

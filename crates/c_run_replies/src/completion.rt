@@ -1,10 +1,11 @@
 //! Completion calls: the starts that handles name, and what their completion changes.
 ghost use Rattle.std.specs.Prelude.{◌≡◌, ◌≤◌, ◌<◌, ◌^◌, ◌*◌, [], IfOk, List, OnOk, length, negsuc, pos};
 ghost use Rattle.std.specs.Option.{option_to_list};
-ghost use Rattle.c_program.specs.Performing.{active_at, active_from, active_in, active_or_none, after_take, answered, empties, first_place, learned, none_active, places_of, put_empties, put_items, put_only_empty, put_places, starts_in, status_at, status_place, takes_all};
+ghost use Rattle.c_program.specs.Performing.{active_at, active_from, active_in, active_or_none, after_take, completing_of, empties, first_place, handle_places, none_active, put_empties, put_items, put_only_empty, put_places, starts_in, status_at, status_place, with_answer, with_communicators};
+ghost use Rattle.run_model.specs.Allowed.{takes_all};
 ghost use Rattle.mpi_call.specs.declared.reply.Reply.TheVariants.{Took};
-ghost use Rattle.c_program.specs.State.{ints_in};
-ghost use Rattle.c_run_replies.specs.Left.{IsLeft, if_stood, is_more, item_put};
+ghost use Rattle.c_program.specs.State.{ints_in_cells};
+ghost use Rattle.c_run_replies.specs.Left.{IsChanged, if_stood, is_more, item_put};
 ghost use Rattle.c_program.specs.Performing.{Onward};
 ghost use Rattle.c_run_replies.specs.Questions.{reached};
 ghost use Rattle.mpi_call.specs.declared.call.Call.TheVariants.{Take};
@@ -12,7 +13,7 @@ ghost use Rattle.mpi_call.specs.declared.call.Call.TheVariants.{Take};
 use crate::answers::{completed, int_of, put, put_empty, put_some};
 use crate::question::{Question, Reached};
 use c_program::constants::{INT_LIMIT, NULL};
-use c_program::effect::{Answer, Rank};
+use c_program::effect::{AnswerCells, Rank};
 use c_program::range::Range;
 use c_run_cells::state::RankState;
 use mpi_call::call::{Call, Fault, TakeMode};
@@ -46,13 +47,13 @@ pub struct Completion {
     pub rank: Rank,
     pub requests: Range,
     pub mode: TakeMode,
-    pub answer: Answer,
+    pub answer: AnswerCells,
 }
 
 impl Completion {
     ghost use Rattle.std.specs.Prelude.{◌≡◌};
 
-    pub fn new(rank: Rank, requests: Range, mode: TakeMode, answer: Answer) -> Completion
+    pub fn new(rank: Rank, requests: Range, mode: TakeMode, answer: AnswerCells) -> Completion
         ensures { result ≡ record { rank = rank; requests = requests; mode = mode; answer = answer } }
     {
         Completion {
@@ -105,7 +106,7 @@ fn active_among(alloc: Global, starts: u32, handles: &[i32]) -> Result<Vec<Activ
 
 /// The handles of a call.
 fn handles_in(alloc: Global, requests: Range, state: &RankState) -> Result<Ints, AllocError>
-    ensures handles { IfOk result (λ handles. handles ≡ ints_in requests state.now) }
+    ensures handles { IfOk result (λ handles. handles ≡ ints_in_cells requests state.now) }
     ensures few { IfOk result (λ handles. length handles < 2 ^ 32) }
 {
     let _few = requests.length();
@@ -164,7 +165,7 @@ fn takes_all(mode: TakeMode) -> bool
 }
 
 /// The empty status for each handle that names no start.
-fn put_empties(answer: &Answer, starts: u32, handles: &[i32], state: &mut RankState)
+fn put_empties(answer: &AnswerCells, starts: u32, handles: &[i32], state: &mut RankState)
     requires { length handles.now < 2 ^ 32 }
     ensures { state.new ≡ put_empties answer.now.statuses starts 0 handles.now state.old }
 {
@@ -209,7 +210,7 @@ fn put_item(
     state: &mut RankState,
 ) -> Result<bool, AllocError>
     requires { call.now.rank.ranks ≤ MOST_RANKS }
-    ensures { IfOk result (λ done. IsLeft (item_put call.now.rank.ranks call.now.requests call.now.mode call.now.answer one number got.now state.old) state.old state.new done) }
+    ensures { IfOk result (λ done. IsChanged (item_put (completing_of call.now.rank.ranks call.now.requests call.now.mode call.now.answer) one number got.now state.old) state.old state.new done) }
 {
     let start = state.start_at(one.start);
     let place = status_place(call.mode, one.place, number);
@@ -231,7 +232,7 @@ fn put_items(
 ) -> Result<bool, AllocError>
     requires ranks { call.now.rank.ranks ≤ MOST_RANKS }
     requires few { length items.now < 2 ^ 31 }
-    ensures comes { IfOk result (λ all. (go : Onward) → put_items call.now.rank.ranks call.now.requests call.now.mode call.now.answer active.now 0 items.now state.old go ≡ if_stood all state.new go) }
+    ensures comes { IfOk result (λ all. (go : Onward) → put_items (completing_of call.now.rank.ranks call.now.requests call.now.mode call.now.answer) active.now 0 items.now state.old go ≡ if_stood all state.new go) }
     ensures left { OnOk result (state.new.left ≤ state.old.left) }
 {
     for (number, item) in items.iter().enumerate() {
@@ -245,7 +246,7 @@ fn put_items(
 
 /// The places of the items' handles.
 fn places_of(alloc: Global, active: &[Active], items: &[Item]) -> Result<Vec<i32>, AllocError>
-    ensures { IfOk result (λ places. places.items ≡ places_of active.now items.now) }
+    ensures { IfOk result (λ places. places.items ≡ handle_places active.now items.now) }
 {
     let mut places = Vec::new(alloc);
     for item in items {
@@ -269,14 +270,14 @@ fn first_place(places: &[i32]) -> i32
 
 /// Puts what a call asks for besides messages, statuses and handles, in the order in which MPI functions name it.
 fn answered(
-    answer: &Answer,
+    answer: &AnswerCells,
     flag: i32,
     index: i32,
     outcount: i32,
     places: &[i32],
     state: &mut RankState,
 )
-    ensures { state.new ≡ answered answer.now flag index outcount places.now state.old }
+    ensures { state.new ≡ with_answer answer.now flag index outcount places.now state.old }
 {
     put_some(state, answer.index, index);
     put_some(state, answer.flag, flag);
@@ -302,12 +303,12 @@ pub fn none_active(
 
 /// Puts what a call asks for besides, once starts are complete. Out of memory also where no int counts them, as in no run.
 fn answered_took(
-    answer: &Answer,
+    answer: &AnswerCells,
     items: &[Item],
     places: &[i32],
     state: &mut RankState,
 ) -> Result<(), AllocError>
-    ensures { OnOk result (state.new ≡ answered answer.now (pos 1) (first_place places.now) (pos (length items.now)) places.now state.old) }
+    ensures { OnOk result (state.new ≡ with_answer answer.now (pos 1) (first_place places.now) (pos (length items.now)) places.now state.old) }
 {
     let count = int_of(items.len())?;
     answered(answer, 1, first_place(places), count, places, state);
@@ -321,7 +322,7 @@ fn noted(
     items: &[Item],
     state: &mut RankState,
 ) -> Result<(), AllocError>
-    ensures { OnOk result (state.new ≡ empties call.now.requests call.now.mode call.now.answer (learned items.now state.old)) }
+    ensures { OnOk result (state.new ≡ empties call.now.requests call.now.mode call.now.answer (with_communicators items.now state.old)) }
 {
     state.learn(items)?;
     empties(alloc, call, state)
@@ -337,7 +338,7 @@ fn took(
     state: &mut RankState,
 ) -> Result<bool, AllocError>
     requires { call.now.rank.ranks ≤ MOST_RANKS }
-    ensures comes { IfOk result (λ all. (go : Onward) → after_take call.now.rank.ranks call.now.requests call.now.mode call.now.answer active.now (Took items.now) state.old go ≡ if_stood all state.new go) }
+    ensures comes { IfOk result (λ all. (go : Onward) → after_take (completing_of call.now.rank.ranks call.now.requests call.now.mode call.now.answer) active.now (Took items.now) state.old go ≡ if_stood all state.new go) }
     ensures left { OnOk result (state.new.left ≤ state.old.left) }
 {
     if items.len() >= INT_LIMIT as usize {
@@ -360,7 +361,7 @@ pub fn after_take(
     state: &mut RankState,
 ) -> Result<Reached, AllocError>
     requires { call.now.rank.ranks ≤ MOST_RANKS }
-    ensures comes { IfOk result (λ found. (go : Onward) → after_take call.now.rank.ranks call.now.requests call.now.mode call.now.answer (active_in call.now.requests state.old) reply.now state.old go ≡ reached call.now.rank found state.new go) }
+    ensures comes { IfOk result (λ found. (go : Onward) → after_take (completing_of call.now.rank.ranks call.now.requests call.now.mode call.now.answer) (active_in call.now.requests state.old) reply.now state.old go ≡ reached call.now.rank found state.new go) }
     ensures left { OnOk result (state.new.left ≤ state.old.left) }
 {
     let Reply::Took(items) = reply else {

@@ -1,12 +1,12 @@
 //! What follows on replies.
 ghost use Rattle.std.specs.Prelude.{◌≡◌, ◌≤◌, IfOk, OnOk, Option, option_map, pos};
 ghost use Rattle.run_model.specs.Program.{ends};
-ghost use Rattle.c_program.specs.Courses.{behind};
+ghost use Rattle.c_program.specs.Courses.{after_one_reply};
 ghost use Rattle.mpi_call.specs.declared.reply.Reply.{Reply};
 ghost use Rattle.c_program.specs.declared.effect.Rank.{Rank};
-ghost use Rattle.c_program.specs.Performing.{Onward, begun, first_got, items_of, learned, number_of_next, put_message, put_result, receiving, sent, start_of, taking_message, taking_result};
+ghost use Rattle.c_program.specs.Performing.{Onward, begun, first_got, reply_items, with_communicators, number_of_next, put_message, put_result, receiving, sent, begun_by, taking_message, taking_result};
 ghost use Rattle.c_program.specs.State.{State, put_some};
-ghost use Rattle.c_run_replies.specs.Questions.{asks, call_of, reached, replied};
+ghost use Rattle.c_run_replies.specs.Questions.{asks, question_call, reached, replied};
 ghost use Rattle.c_run_replies.specs.declared.question.Question.TheVariants.{Receives};
 
 use crate::answers::{completed, probed, put_result, put_some, status_cell};
@@ -23,7 +23,7 @@ use std::alloc::{AllocError, Global};
 
 /// Whether a reply to this question ends the rank.
 fn ends(question: &Question, reply: &Reply) -> bool
-    ensures { (s : State) → result ≡ ends (call_of question.now s, reply.now) }
+    ensures { (s : State) → result ≡ ends (question_call question.now s, reply.now) }
 {
     match reply {
         Reply::Stopped(_) => true,
@@ -41,7 +41,7 @@ pub fn reply_to(
     state: &mut RankState,
 ) -> Result<Reached, AllocError>
     requires { rank.ranks ≤ MOST_RANKS }
-    ensures comes { IfOk result (λ found. (go : Onward) → behind (asks rank question.now state.old go) reply.now ≡ reached rank found state.new go) }
+    ensures comes { IfOk result (λ found. (go : Onward) → after_one_reply (asks rank question.now state.old go) reply.now ≡ reached rank found state.new go) }
     ensures left { OnOk result (state.new.left ≤ state.old.left) }
 {
     if ends(question, reply) {
@@ -105,7 +105,7 @@ fn replied(
 
 /// The items of a reply.
 pub fn items_of(reply: &Reply) -> &[Item]
-    ensures { result.now ≡ items_of reply.now }
+    ensures { result.now ≡ reply_items reply.now }
 {
     match reply {
         Reply::Took(items) => items.as_slice(),
@@ -115,8 +115,8 @@ pub fn items_of(reply: &Reply) -> &[Item]
 
 /// Notes what a reply tells; answers what its first item gives.
 fn learn<'a>(reply: &'a Reply, state: &mut RankState) -> Result<Option<&'a Got>, AllocError>
-    ensures got { IfOk result (λ got. option_map (λ got. got.now) got ≡ first_got (items_of reply.now)) }
-    ensures state { OnOk result (state.new ≡ learned (items_of reply.now) state.old) }
+    ensures got { IfOk result (λ got. option_map (λ got. got.now) got ≡ first_got (reply_items reply.now)) }
+    ensures state { OnOk result (state.new ≡ with_communicators (reply_items reply.now) state.old) }
 {
     let items = items_of(reply);
     state.learn(items)?;
@@ -146,7 +146,7 @@ fn receiving(receive: &Receive) -> Begun
 }
 
 fn start_of(start: &Start) -> Begun
-    ensures { result ≡ start_of start.now }
+    ensures { result ≡ begun_by start.now }
 {
     match start {
         Start::Send(message) => sent(message.comm),
@@ -176,7 +176,7 @@ fn take_result(comm: u32, into: Into, state: &mut RankState) -> Result<Reached, 
 
 /// Puts the result of a completed start.
 fn took_result(into: Into, reply: &Reply, state: &mut RankState) -> Result<Reached, AllocError>
-    ensures comes { IfOk result (λ found. (rank : Rank) (go : Onward) → go (put_result into (first_got (items_of reply.now)) (learned (items_of reply.now) state.old)) ≡ reached rank found state.new go) }
+    ensures comes { IfOk result (λ found. (rank : Rank) (go : Onward) → go (put_result into (first_got (reply_items reply.now)) (with_communicators (reply_items reply.now) state.old)) ≡ reached rank found state.new go) }
     ensures left { OnOk result (state.new.left ≤ state.old.left) }
 {
     let got = learn(reply, state)?;
@@ -192,7 +192,7 @@ fn took_message(
     state: &mut RankState,
 ) -> Result<Reached, AllocError>
     requires { rank.ranks ≤ MOST_RANKS }
-    ensures comes { IfOk result (λ found. (go : Onward) → put_message rank.ranks (receiving awaited.now.receive) awaited.now.status (first_got (items_of reply.now)) (learned (items_of reply.now) state.old) go ≡ reached rank found state.new go) }
+    ensures comes { IfOk result (λ found. (go : Onward) → put_message rank.ranks (receiving awaited.now.receive) awaited.now.status (first_got (reply_items reply.now)) (with_communicators (reply_items reply.now) state.old) go ≡ reached rank found state.new go) }
     ensures left { OnOk result (state.new.left ≤ state.old.left) }
 {
     let got = learn(reply, state)?;

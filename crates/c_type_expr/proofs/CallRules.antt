@@ -17,21 +17,21 @@ use Rattle.c_grammar.proofs.Viewed.{view-whole, view-cell}
 use Rattle.c_names.specs.declared.predefined.Predefined.{Predefined}
 use Rattle.c_names.specs.declared.predefined.Predefined.TheVariants as p
 use Rattle.c_program.specs.Tree as pure
-use Rattle.c_program.specs.Tree.{Expr}
+use Rattle.c_program.specs.Tree.{TypedExpr}
 use Rattle.c_check.specs.Calls.{array_sum, is_plus, name_alone, sum_base, predefined_of}
 use Rattle.c_check_expr.specs.Scopes.{Env}
 use Rattle.c_check_expr.specs.Variables.{variable}
 use Rattle.c_type_expr.specs.Calls as y
-use Rattle.c_type_expr.specs.Calls.{IsReference, IsValue}
-use Rattle.c_type_expr.specs.Exprs.{IsExpr}
+use Rattle.c_type_expr.specs.Calls.{IsReference, IsTypedValue}
+use Rattle.c_type_expr.specs.Exprs.{IsTypedExpr}
 use Rattle.c_type_expr.specs.Shapes.{is_reference, is_reference_by}
 
 pub address_rule : (env : Env) (mark : Span) (place : source_place.Place) (name : Span) (number : ℕ) → place ≡ tp.Whole name → number ≡ variable env name
     → IsReference env (t.address mark (place_view place)) (pure.all_of number)
 address_rule env mark place name number s n = rw (s, view-whole, n) y.address
 
-pub address_from_rule : (env : Env) (mark : Span) (place : source_place.Place) (name opening : Span) (index : Box source.Expr Global) (closing : Span) (number : ℕ) (typed : Expr)
-    → place ≡ tp.Cell name opening index closing → number ≡ variable env name → IsExpr env (view index.value) typed
+pub address_from_rule : (env : Env) (mark : Span) (place : source_place.Place) (name opening : Span) (index : Box source.Expr Global) (closing : Span) (number : ℕ) (typed : TypedExpr)
+    → place ≡ tp.Cell name opening index closing → number ≡ variable env name → IsTypedExpr env (view index.value) typed
     → IsReference env (t.address mark (place_view place)) (pure.from number typed)
 address_from_rule env mark place name opening index closing number typed s n h = rw (s, view-cell, n) (y.address_from h)
 
@@ -74,8 +74,8 @@ null_rule env argument word e h k =
     let P : Option Predefined → Type 0 = λ one. is_some one ≡ true in
     y.null (null_by (predefined_of env argument) argument h (subst P e k))
 
-pub value_rule : (env : Env) (argument : Argument) (e : source.Expr) (typed : Expr) → argument ≡ ta.Value e → IsExpr env (view e) typed
-    → IsValue env (argument_view argument) typed
+pub value_rule : (env : Env) (argument : Argument) (e : source.Expr) (typed : TypedExpr) → argument ≡ ta.Value e → IsTypedExpr env (view e) typed
+    → IsTypedValue env (argument_view argument) typed
 value_rule env argument e typed s h = rw s (y.value h)
 
 -- what is a name and an operand added to it
@@ -108,8 +108,8 @@ base_tells (Some n) (t.link operator at o t.no_link) name operand h = elim (case
   | inr e ↦ let g = rw e at h in absurd (let z : ⊥ = cc g in z)
 ]
 
-pub sum_rule : (env : Env) (e : t.Expr) (name : Span) (operand : t.Expr) (number : ℕ) (typed : Expr) → Some (name, operand) ≡ array_sum e
-    → number ≡ variable env name → IsExpr env operand typed → IsReference env (t.value e) (pure.from number typed)
+pub sum_rule : (env : Env) (e : t.Expr) (name : Span) (operand : t.Expr) (number : ℕ) (typed : TypedExpr) → Some (name, operand) ≡ array_sum e
+    → number ≡ variable env name → IsTypedExpr env operand typed → IsReference env (t.value e) (pure.from number typed)
 sum_rule env (t.chain level first links) name operand number typed h n k =
     let s = base_tells (name_alone first) links name operand (sym h) in
     let P : t.Expr → Type 0 = λ one. IsReference env (t.value (t.chain level one links)) (pure.from number typed) in

@@ -5,7 +5,7 @@ use Rattle.std.proofs.lemmas.Bool.{eqb-true}
 use Rattle.c_lex.specs.declared.fault.Why.TheVariants.{WrongType}
 use Rattle.c_grammar.specs.declared.terminal.Span.{Span}
 use Rattle.c_grammar.specs.Tree as t
-use Rattle.c_names.specs.Functions.{accepts, arguments}
+use Rattle.c_names.specs.Functions.{takes_predefined, arguments}
 use Rattle.c_names.specs.declared.function.ArgumentKind.{ArgumentKind}
 use Rattle.c_names.specs.declared.function.ArgumentKind.TheVariants as a
 use Rattle.c_names.specs.declared.function.MpiFunction.{MpiFunction}
@@ -14,7 +14,7 @@ use Rattle.c_names.specs.declared.predefined.Predefined.{Predefined}
 use Rattle.c_names.specs.declared.predefined.Predefined.TheVariants as p
 use Rattle.c_names.specs.declared.kind.VariableKind.{VariableKind}
 use Rattle.c_names.specs.declared.kind.VariableKind.TheVariants.{Int, Status, Request, Communicator}
-use Rattle.c_check.specs.Calls.{accepts_own, accepts_predefined, argument_faults, arguments_faults, arguments_of, array_faults, array_sum, call_faults, counted_faults, first_may_be_null, is_nameless, is_own, may_be_array_of, meant_faults, misfit_faults, mpi_takes, name_alone, nameless_of, nameless_or, nameless_value, predefined_meant, predefined_of, reference_faults, result_faults, right_faults, signature_takes, sum_faults, unaccepted_faults, value_faults}
+use Rattle.c_check.specs.Calls.{accepts_own, accepts_predefined, argument_faults, arguments_faults, arguments_of, array_faults, array_sum, call_faults, counted_faults, first_may_be_null, is_nameless, is_main_parameter, may_be_array_of, meant_faults, misfit_faults, mpi_takes, name_alone, nameless_of, nameless_or, nameless_value, predefined_meant, predefined_of, reference_faults, result_faults, right_faults, signature_takes, sum_faults, unaccepted_faults, value_faults}
 use Rattle.c_check_expr.specs.Expressions.{expr_faults}
 use Rattle.c_check_expr.specs.Kinds.{first_token}
 use Rattle.c_check_expr.specs.Least.{fault}
@@ -24,7 +24,7 @@ use Rattle.c_check_expr.specs.declared.meaning.ExprKind.TheVariants.{Of}
 use Rattle.c_check_expr.specs.declared.meaning.Meaning.{Meaning}
 use Rattle.c_check_expr.specs.declared.meaning.Meaning.TheVariants as m
 use Rattle.c_check_expr.specs.declared.meaning.Entity.TheVariants as d
-use Rattle.c_type_expr.specs.MpiArguments.{AreShaped, Fits, argument, has_shape, is_operation, is_status, is_status_by}
+use Rattle.c_type_expr.specs.inside.MpiArguments.{AreShaped, FitsFunction, argument, has_argument_shape, is_operation, is_status, is_status_by}
 use Rattle.c_type_expr.specs.Shapes.{has_cells, is_reference, is_reference_by, is_value}
 
 -- ---- lists without faults
@@ -116,14 +116,14 @@ status_shape env wanted given h = let s = cells_shape env wanted given h in rw s
 
 -- ---- arguments, by what is wanted
 
-own_never : (env : Env) (kind : ArgumentKind) (given : t.Argument) → ((meant : Meaning) → is_own kind meant ≡ false) → accepts_own env kind given ≡ false
+own_never : (env : Env) (kind : ArgumentKind) (given : t.Argument) → ((meant : Meaning) → is_main_parameter kind meant ≡ false) → accepts_own env kind given ≡ false
 own_never env kind (t.address mark (t.whole name)) h = h (meaning env name)
 own_never env kind (t.address mark (t.cell name opening index closing)) h = refl
 own_never env kind (t.text at) h = refl
 own_never env kind (t.value e) h = refl
 
 -- accepted by its name, or without faults where it is not
-told : (env : Env) (kind : ArgumentKind) (given : t.Argument) → ((meant : Meaning) → is_own kind meant ≡ false) → argument_faults env kind given ≡ []
+told : (env : Env) (kind : ArgumentKind) (given : t.Argument) → ((meant : Meaning) → is_main_parameter kind meant ≡ false) → argument_faults env kind given ≡ []
     → (accepts_predefined kind (predefined_of env given) ≡ true) ⊎ (unaccepted_faults env kind given ≡ [])
 told env kind given o h = elim (cases (accepts_predefined kind (predefined_of env given))) [
   | inl e ↦ inl e
@@ -131,14 +131,14 @@ told env kind given o h = elim (cases (accepts_predefined kind (predefined_of en
 ]
 
 -- no name is accepted
-unnamed : (env : Env) (kind : ArgumentKind) (given : t.Argument) → ((known : Predefined) → accepts kind known ≡ false)
-    → ((meant : Meaning) → is_own kind meant ≡ false) → argument_faults env kind given ≡ [] → unaccepted_faults env kind given ≡ []
+unnamed : (env : Env) (kind : ArgumentKind) (given : t.Argument) → ((known : Predefined) → takes_predefined kind known ≡ false)
+    → ((meant : Meaning) → is_main_parameter kind meant ≡ false) → argument_faults env kind given ≡ [] → unaccepted_faults env kind given ≡ []
 unnamed env kind given n o h = elim (told env kind given o h) [
   | inl e ↦ absurd (word_never kind (predefined_of env given) n e)
   | inr e ↦ e
 ]
   where
-    word_never : (kind : ArgumentKind) (word : Option Predefined) → ((known : Predefined) → accepts kind known ≡ false) → accepts_predefined kind word ≡ true → ⊥
+    word_never : (kind : ArgumentKind) (word : Option Predefined) → ((known : Predefined) → takes_predefined kind known ≡ false) → accepts_predefined kind word ≡ true → ⊥
     word_never kind None n e = cc
     word_never kind (Some known) n e = cc (n known)
 
@@ -202,7 +202,7 @@ operation_word (Some (p.Mpi function)) h = cc
 operation_word (Some p.Printf) h = cc
 operation_word (Some p.Fflush) h = cc
 
-pub shape : (env : Env) (kind : ArgumentKind) (given : t.Argument) → argument_faults env kind given ≡ [] → has_shape env kind given ≡ true
+pub shape : (env : Env) (kind : ArgumentKind) (given : t.Argument) → argument_faults env kind given ≡ [] → has_argument_shape env kind given ≡ true
 shape env a.Number given h = value_shape env (Of Int) given (unnamed env a.Number given (λ known. refl) (λ meant. refl) h)
 shape env a.Communicator given h = value_shape env (Of Communicator) given (unnamed env a.Communicator given (λ known. refl) (λ meant. refl) h)
 shape env a.Ints given h = reference_shape env Int given (unnamed env a.Ints given (λ known. refl) (λ meant. refl) h)
@@ -257,7 +257,7 @@ counted env name kinds given h = elim (cases (length given == length kinds)) [
 ]
 
 fitting : (env : Env) (name : Span) (function : MpiFunction) (given : List t.Argument) → counted_faults env name (Some (arguments function)) given ≡ []
-    → Fits env function given
+    → FitsFunction env function given
 fitting env name function given h =
     let k = counted env name (arguments function) given h in
     record { count = k.count; shapes = shapes env (arguments function) given k.count k.faults }
@@ -268,7 +268,7 @@ init_count env name given true h = (counted env name (a.NoReference ∷ a.NoRefe
 init_count env name given false h = (counted env name (a.ArgumentCount ∷ a.ArgumentTexts ∷ []) given h).count
 
 taken : (env : Env) (name : Span) (function : MpiFunction) (given : List t.Argument) → counted_faults env name (Some (mpi_takes env function given)) given ≡ []
-    → Fits env function given
+    → FitsFunction env function given
 taken env name f.Init given h = record { count = init_count env name given (first_may_be_null env given) h; shapes = (refl, (refl, tt)) }
 taken env name f.Finalize given h = fitting env name f.Finalize given h
 taken env name f.CommRank given h = fitting env name f.CommRank given h
@@ -306,12 +306,12 @@ taken env name f.CommDup given h = fitting env name f.CommDup given h
 taken env name f.Abort given h = fitting env name f.Abort given h
 
 -- a call of an MPI function without faults
-pub mpi_fits : (env : Env) (call : t.Call) (function : MpiFunction) → meaning env call.name ≡ m.Known (p.Mpi function) → call_faults env call ≡ []
-    → Fits env function (arguments_of call)
+pub mpi_fits : (env : Env) (call : t.WrittenCall) (function : MpiFunction) → meaning env call.name ≡ m.Known (p.Mpi function) → call_faults env call ≡ []
+    → FitsFunction env function (arguments_of call)
 mpi_fits env call function e h = taken env call.name function (arguments_of call) (rw e at h)
 
 -- a call of a function of the text without faults
-pub text_fits : (env : Env) (call : t.Call) (number : ℕ) → meaning env call.name ≡ m.Declared (d.Function number) → call_faults env call ≡ []
+pub text_fits : (env : Env) (call : t.WrittenCall) (number : ℕ) → meaning env call.name ≡ m.Declared (d.Function number) → call_faults env call ≡ []
     → IsCounted env (signature_takes (slice_get env.functions number)) (arguments_of call)
 text_fits env call number e h = counted env call.name (signature_takes (slice_get env.functions number)) (arguments_of call) (rw e at h)
 
@@ -341,11 +341,11 @@ calls_function env wanted name (m.Declared d.ArrayParameter) given h k = absurd 
 calls_function env wanted name (m.Declared d.ArgumentCount) given h k = absurd (let z : ⊥ = cc in z)
 calls_function env wanted name (m.Declared d.ArgumentTexts) given h k = absurd (let z : ⊥ = cc in z)
 
-pub right_calls : (env : Env) (wanted : ExprKind) (call : t.Call) → right_faults env wanted (t.called call) ≡ []
+pub right_calls : (env : Env) (wanted : ExprKind) (call : t.WrittenCall) → right_faults env wanted (t.called call) ≡ []
     → (number : ℕ) × (meaning env call.name ≡ m.Declared (d.Function number))
 right_calls env wanted call h =
     let behind = result_faults env wanted (meaning env call.name) call.name in
     calls_function env wanted call.name (meaning env call.name) (arguments_of call) (none_before (call_faults env call) behind h) (none_behind (call_faults env call) behind h)
 
-pub called_faultless : (env : Env) (wanted : ExprKind) (call : t.Call) → right_faults env wanted (t.called call) ≡ [] → call_faults env call ≡ []
+pub called_faultless : (env : Env) (wanted : ExprKind) (call : t.WrittenCall) → right_faults env wanted (t.called call) ≡ [] → call_faults env call ≡ []
 called_faultless env wanted call h = none_before (call_faults env call) (result_faults env wanted (meaning env call.name) call.name) h

@@ -13,11 +13,11 @@ use Rattle.c_check_expr.specs.declared.meaning.ExprKind.{ExprKind}
 use Rattle.c_check_expr.specs.declared.meaning.Entity.TheVariants as d
 use Rattle.c_check_expr.specs.declared.meaning.Meaning.TheVariants as m
 use Rattle.c_program.specs.Tree as pure
-use Rattle.c_program.specs.Tree.{Argument, Expr, FunctionCall, Links, Place, Reference, Right}
+use Rattle.c_program.specs.Tree.{TypedArgument, TypedExpr, FunctionCall, TypedLinks, TypedPlace, Reference, TypedRight}
 use Rattle.c_type_expr.specs.Calls as y
-use Rattle.c_type_expr.specs.Calls.{AreArguments, IsArgument, IsCall, IsReference, IsRight, IsValue}
+use Rattle.c_type_expr.specs.Calls.{AreTypedArguments, IsTypedArgument, IsTypedCall, IsReference, IsTypedRight, IsTypedValue}
 use Rattle.c_type_expr.specs.Exprs as x
-use Rattle.c_type_expr.specs.Exprs.{AreLinks, IsExpr, IsPlace, field_of, value_of_place}
+use Rattle.c_type_expr.specs.Exprs.{AreTypedLinks, IsTypedExpr, IsTypedPlace, field_of, value_of_place}
 use Rattle.c_type_expr.specs.Shapes.{has_cells, is_array, is_reference, is_value}
 use Rattle.c_type_expr.proofs.CallRules.{array_rule, null_rule, sum_rule}
 use Rattle.c_type_expr.proofs.Faultless.{called_faultless, none_before, none_behind, nothing_never, right_calls, shape, text_fits}
@@ -25,13 +25,13 @@ use Rattle.c_type_expr.proofs.Faultless.{called_faultless, none_before, none_beh
 -- ---- expressions
 
 module _ (env : Env) where
-  read_total : (place : t.Place) (found : Option ℤ) → value_of_place env place ≡ found → (typed : Place) × IsPlace env place typed
-      → (typed : Expr) × IsExpr env (t.read place) typed
+  read_total : (place : t.Place) (found : Option ℤ) → value_of_place env place ≡ found → (typed : TypedPlace) × IsTypedPlace env place typed
+      → (typed : TypedExpr) × IsTypedExpr env (t.read place) typed
   read_total place (Some value) e p = (pure.number value, x.value e)
   read_total place None e p = (pure.read p.0, x.read e p.1)
 
   mutual
-    pub expr_total : (e : t.Expr) → (typed : Expr) × IsExpr env e typed
+    pub expr_total : (e : t.Expr) → (typed : TypedExpr) × IsTypedExpr env e typed
     expr_total (t.number span) = (_, x.number)
     expr_total (t.read place) = read_total place (value_of_place env place) refl (place_total place)
     expr_total (t.field place dot name) = let p = place_total place in (pure.field p.0 (field_of (token_bytes env.text name)), x.field p.1)
@@ -41,18 +41,18 @@ module _ (env : Env) where
     expr_total (t.choice test question branch colon other) =
         let c = expr_total test in let b = expr_total branch in let o = expr_total other in (pure.choice c.0 b.0 o.0, x.choice c.1 b.1 o.1)
 
-    pub place_total : (place : t.Place) → (typed : Place) × IsPlace env place typed
+    pub place_total : (place : t.Place) → (typed : TypedPlace) × IsTypedPlace env place typed
     place_total (t.whole name) = (_, x.whole)
     place_total (t.cell name opening index closing) = let p = expr_total index in (pure.element (variable env name) p.0, x.element p.1)
 
-    links_total : (links : t.Links) → (typed : Links) × AreLinks env links typed
+    links_total : (links : t.Links) → (typed : TypedLinks) × AreTypedLinks env links typed
     links_total t.no_link = (pure.no_link, x.no_link)
     links_total (t.link operator span operand links) =
         let p = expr_total operand in let l = links_total links in (pure.link (operator_of operator) p.0 l.0, x.link p.1 l.1)
 
   -- ---- values and references
 
-  pub value_total : (given : t.Argument) → is_value given ≡ true → (typed : Expr) × IsValue env given typed
+  pub value_total : (given : t.Argument) → is_value given ≡ true → (typed : TypedExpr) × IsTypedValue env given typed
   value_total (t.value e) h = let p = expr_total e in (p.0, y.value p.1)
   value_total (t.text span) h = absurd (let z : ⊥ = cc in z)
   value_total (t.address mark place) h = absurd (let z : ⊥ = cc in z)
@@ -85,7 +85,7 @@ module _ (env : Env) where
   -- ---- calls of functions of the text
 
   argument_total : (one : t.Parameter) (given : t.Argument) → argument_faults env (parameter_takes one) given ≡ []
-      → (typed : Argument) × IsArgument env (parameter_takes one) given typed
+      → (typed : TypedArgument) × IsTypedArgument env (parameter_takes one) given typed
   argument_total (t.int keyword name) given h = let p = value_total given (shape env k.Number given h) in (pure.by_value p.0, y.number p.1)
   argument_total (t.communicator keyword name) given h = let p = value_total given (shape env k.Communicator given h) in (pure.by_value p.0, y.communicator p.1)
   argument_total (t.array keyword name opening len closing) given h = let p = reference_total given (shape env k.Buffer given h) in (pure.by_reference p.0, y.ints p.1)
@@ -94,7 +94,7 @@ module _ (env : Env) where
   argument_total (t.text_array keyword star name opening closing) given h = absurd (nothing_never env given h)
 
   arguments_total : (parameters : List t.Parameter) (given : List t.Argument) → length given ≡ length (map parameter_takes parameters) → arguments_faults env (map parameter_takes parameters) given ≡ []
-      → (typed : List Argument) × AreArguments env (map parameter_takes parameters) given typed
+      → (typed : List TypedArgument) × AreTypedArguments env (map parameter_takes parameters) given typed
   arguments_total [] [] n h = ([], y.no_argument)
   arguments_total [] (one ∷ more) n h = absurd (omega (arith, n))
   arguments_total (one ∷ others) [] n h = absurd (omega (arith, n))
@@ -110,8 +110,8 @@ module _ (env : Env) where
     takes_of (head ∷ more) zero = (parameters_listed head.listed, refl)
     takes_of (head ∷ more) (suc number) = takes_of more number
 
-    pub call_total : (call : t.Call) (number : ℕ) → meaning env call.name ≡ m.Declared (d.Function number) → call_faults env call ≡ []
-        → (typed : FunctionCall) × IsCall env call typed
+    pub call_total : (call : t.WrittenCall) (number : ℕ) → meaning env call.name ≡ m.Declared (d.Function number) → call_faults env call ≡ []
+        → (typed : FunctionCall) × IsTypedCall env call typed
     call_total call number e h =
         let fit = text_fits env call number e h in
         let takes = takes_of heads number in
@@ -119,10 +119,10 @@ module _ (env : Env) where
         let l = arguments_total takes.0 (arguments_of call)
         (fit.count ∙ ap length same) (subst (λ kinds. arguments_faults env kinds (arguments_of call) ≡ []) same fit.faults) in (
           record { function = number; arguments = l.0 },
-          record { function = e; arguments = subst (λ kinds. AreArguments env kinds (arguments_of call) l.0) (sym same) l.1 },
+          record { function = e; arguments = subst (λ kinds. AreTypedArguments env kinds (arguments_of call) l.0) (sym same) l.1 },
         )
 
-    pub right_total : (right : t.Right) (wanted : ExprKind) → right_faults env wanted right ≡ [] → (typed : Right) × IsRight env right typed
+    pub right_total : (right : t.Right) (wanted : ExprKind) → right_faults env wanted right ≡ [] → (typed : TypedRight) × IsTypedRight env right typed
     right_total (t.valued e) wanted h = let p = expr_total e in (pure.value p.0, y.value p.1)
     right_total (t.called call) wanted h =
         let found = right_calls env wanted call h in

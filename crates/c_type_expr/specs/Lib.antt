@@ -1,4 +1,4 @@
 pub mod Shapes
 pub mod Exprs
 pub mod Calls
-pub mod MpiArguments
+pub mod inside

@@ -13,7 +13,7 @@ ghost use Rattle.c_check_expr.specs.Signatures.{parameter_takes, signature_of};
 ghost use Rattle.c_check_expr.specs.declared.meaning.ExprKind.{ExprKind};
 ghost use Rattle.c_check_expr.specs.declared.meaning.Meaning.TheVariants as m;
 ghost use Rattle.c_check_expr.specs.declared.meaning.Entity.TheVariants as d;
-ghost use Rattle.c_type_expr.specs.Calls.{AreArguments, IsArgument, IsCall, IsReference, IsRight, IsValue};
+ghost use Rattle.c_type_expr.specs.Calls.{AreTypedArguments, IsTypedArgument, IsTypedCall, IsReference, IsTypedRight, IsTypedValue};
 ghost use Rattle.c_type_expr.specs.Shapes.{is_array, is_reference, is_value};
 
 use crate::expr_of::expr_of;
@@ -23,7 +23,7 @@ use c_check_expr::meaning::{Entity, Meaning};
 use c_check_expr::scope::Scope;
 use c_grammar::terminal::Span;
 use c_grammar::{statement, tree};
-use c_program::expr::{Argument, Expr, FunctionCall, Reference, Right};
+use c_program::expr::{FunctionCall, Reference, TypedArgument, TypedExpr, TypedRight};
 use std::alloc::{AllocError, Global};
 
 /// What is added to the name of an array.
@@ -104,9 +104,9 @@ pub fn value_of(
     alloc: Global,
     scope: &Scope,
     argument: &statement::Argument,
-) -> Result<Expr, AllocError>
+) -> Result<TypedExpr, AllocError>
     requires { is_value (argument_view argument.now) ≡ true }
-    ensures { IfOk result (λ typed. IsValue scope.now (argument_view argument.now) (pure_expr typed)) }
+    ensures { IfOk result (λ typed. IsTypedValue scope.now (argument_view argument.now) (pure_expr typed)) }
 {
     match argument {
         statement::Argument::Value(e) => {
@@ -124,18 +124,18 @@ fn argument_of(
     scope: &Scope,
     parameter: &statement::Parameter,
     argument: &statement::Argument,
-) -> Result<Argument, AllocError>
+) -> Result<TypedArgument, AllocError>
     requires { argument_faults scope.now (parameter_takes (parameter_view parameter.now)) (argument_view argument.now) ≡ [] }
-    ensures { IfOk result (λ typed. IsArgument scope.now (parameter_takes (parameter_view parameter.now)) (argument_view argument.now) (pure_argument typed)) }
+    ensures { IfOk result (λ typed. IsTypedArgument scope.now (parameter_takes (parameter_view parameter.now)) (argument_view argument.now) (pure_argument typed)) }
 {
     match parameter {
         statement::Parameter::Int { .. } | statement::Parameter::Communicator { .. } => {
             let typed = value_of(alloc, scope, argument)?;
-            Ok(Argument::Value(typed))
+            Ok(TypedArgument::Value(typed))
         }
         statement::Parameter::Array { .. } | statement::Parameter::Pointer { .. } => {
             let typed = reference_of(alloc, scope, argument)?;
-            Ok(Argument::Reference(typed))
+            Ok(TypedArgument::Reference(typed))
         }
         statement::Parameter::TextPointers { .. } | statement::Parameter::TextArray { .. } => {
             unreachable!()
@@ -148,11 +148,11 @@ fn arguments_of(
     alloc: Global,
     scope: &Scope,
     head: &statement::Head,
-    call: &statement::Call,
-) -> Result<Vec<Argument>, AllocError>
+    call: &statement::WrittenCall,
+) -> Result<Vec<TypedArgument>, AllocError>
     requires count { length (arguments_of (call_view call.now)) ≡ length (signature_of (head_view head.now)).takes }
     requires faults { arguments_faults scope.now (signature_of (head_view head.now)).takes (arguments_of (call_view call.now)) ≡ [] }
-    ensures { IfOk result (λ typed. AreArguments scope.now (signature_of (head_view head.now)).takes (arguments_of (call_view call.now)) (map pure_argument typed.items)) }
+    ensures { IfOk result (λ typed. AreTypedArguments scope.now (signature_of (head_view head.now)).takes (arguments_of (call_view call.now)) (map pure_argument typed.items)) }
 {
     let mut typed = Vec::new(alloc);
     for place in 0..argument_count(call) {
@@ -173,11 +173,11 @@ pub fn call_of(
     alloc: Global,
     scope: &Scope,
     number: usize,
-    call: &statement::Call,
+    call: &statement::WrittenCall,
 ) -> Result<FunctionCall, AllocError>
     requires function { meaning scope.now call.now.name ≡ m.Declared (d.Function number) }
     requires faults { call_faults scope.now (call_view call.now) ≡ [] }
-    ensures { IfOk result (λ typed. IsCall scope.now (call_view call.now) (pure_call typed)) }
+    ensures { IfOk result (λ typed. IsTypedCall scope.now (call_view call.now) (pure_call typed)) }
 {
     match scope.head(number) {
         Some(head) => {
@@ -206,19 +206,23 @@ fn function_at(scope: &Scope, name: Span) -> usize
 }
 
 /// The typed right side of a right side without faults.
-pub fn right_of(alloc: Global, scope: &Scope, right: &statement::Right) -> Result<Right, AllocError>
+pub fn right_of(
+    alloc: Global,
+    scope: &Scope,
+    right: &statement::Right,
+) -> Result<TypedRight, AllocError>
     requires { (wanted : ExprKind) × (right_faults scope.now wanted (right_view right.now) ≡ []) }
-    ensures { IfOk result (λ typed. IsRight scope.now (right_view right.now) (pure_right typed)) }
+    ensures { IfOk result (λ typed. IsTypedRight scope.now (right_view right.now) (pure_right typed)) }
 {
     match right {
         statement::Right::Value(e) => {
             let typed = expr_of(alloc, scope, e)?;
-            Ok(Right::Value(typed))
+            Ok(TypedRight::Value(typed))
         }
         statement::Right::Call(call) => {
             let number = function_at(scope, call.name);
             let typed = call_of(alloc, scope, number, call)?;
-            Ok(Right::Call(typed))
+            Ok(TypedRight::Call(typed))
         }
     }
 }

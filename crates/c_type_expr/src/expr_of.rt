@@ -4,7 +4,7 @@ ghost use Rattle.std.specs.Prelude.{◌≡◌, IfOk, map};
 ghost use Rattle.c_grammar.specs.View.{links_from, piece, place_view, view};
 ghost use Rattle.c_program.specs.View.{pure_expr, pure_links, pure_place};
 ghost use Rattle.c_check_expr.specs.Variables.{value_meant};
-ghost use Rattle.c_type_expr.specs.Exprs.{AreLinks, IsExpr, IsPlace, field_of, value_of_place};
+ghost use Rattle.c_type_expr.specs.Exprs.{AreTypedLinks, IsTypedExpr, IsTypedPlace, field_of, value_of_place};
 
 use crate::results::boxed;
 use c_check_expr::constant::{operator_of, unary_of};
@@ -12,7 +12,7 @@ use c_check_expr::meaning::{Entity, Meaning};
 use c_check_expr::scope::{Scope, is_same, number_at, token_bytes};
 use c_grammar::tree;
 use c_names::predefined::Predefined;
-use c_program::expr::{Expr, Field, Link, Place};
+use c_program::expr::{Field, TypedExpr, TypedLink, TypedPlace};
 use std::alloc::{AllocError, Global};
 
 /// The value of a name that is a value. Handles are numbers, and none is -1.
@@ -50,16 +50,16 @@ fn field_of(name: &[u8]) -> Field
 
 /// The typed expression of an expression without faults.
 #[cycle(typing)]
-pub fn expr_of(alloc: Global, scope: &Scope, e: &tree::Expr) -> Result<Expr, AllocError>
-    ensures { IfOk result (λ typed. IsExpr scope.now (view e.now) (pure_expr typed)) }
+pub fn expr_of(alloc: Global, scope: &Scope, e: &tree::Expr) -> Result<TypedExpr, AllocError>
+    ensures { IfOk result (λ typed. IsTypedExpr scope.now (view e.now) (pure_expr typed)) }
 {
     match e {
-        tree::Expr::Number(at) => Ok(Expr::Number(number_at(scope.text(), *at).cast_signed())),
+        tree::Expr::Number(at) => Ok(TypedExpr::Number(number_at(scope.text(), *at).cast_signed())),
         tree::Expr::Read(place) => match value_of_place(scope, place) {
-            Some(value) => Ok(Expr::Number(value)),
-            None => Ok(Expr::Read(place_of(alloc, scope, place)?)),
+            Some(value) => Ok(TypedExpr::Number(value)),
+            None => Ok(TypedExpr::Read(place_of(alloc, scope, place)?)),
         },
-        tree::Expr::Field { place, name, .. } => Ok(Expr::Field {
+        tree::Expr::Field { place, name, .. } => Ok(TypedExpr::Field {
             status: place_of(alloc, scope, place)?,
             field: field_of(token_bytes(scope.text(), *name)),
         }),
@@ -67,11 +67,11 @@ pub fn expr_of(alloc: Global, scope: &Scope, e: &tree::Expr) -> Result<Expr, All
             let typed = expr_of(alloc, scope, inner)?;
             Ok(typed)
         }
-        tree::Expr::Unary { sign, operand, .. } => Ok(Expr::Signed {
+        tree::Expr::Unary { sign, operand, .. } => Ok(TypedExpr::Signed {
             sign: unary_of(*sign),
             operand: boxed_of(alloc, scope, operand)?,
         }),
-        tree::Expr::Chain { first, links, .. } => Ok(Expr::Chain {
+        tree::Expr::Chain { first, links, .. } => Ok(TypedExpr::Chain {
             first: boxed_of(alloc, scope, first)?,
             links: links_of(alloc, scope, links)?,
         }),
@@ -80,7 +80,7 @@ pub fn expr_of(alloc: Global, scope: &Scope, e: &tree::Expr) -> Result<Expr, All
             then,
             other,
             ..
-        } => Ok(Expr::Choice {
+        } => Ok(TypedExpr::Choice {
             test: boxed_of(alloc, scope, test)?,
             then: boxed_of(alloc, scope, then)?,
             other: boxed_of(alloc, scope, other)?,
@@ -89,8 +89,8 @@ pub fn expr_of(alloc: Global, scope: &Scope, e: &tree::Expr) -> Result<Expr, All
 }
 
 #[cycle(typing)]
-fn boxed_of(alloc: Global, scope: &Scope, e: &tree::Expr) -> Result<Box<Expr>, AllocError>
-    ensures { IfOk result (λ typed. IsExpr scope.now (view e.now) (pure_expr typed.value)) }
+fn boxed_of(alloc: Global, scope: &Scope, e: &tree::Expr) -> Result<Box<TypedExpr>, AllocError>
+    ensures { IfOk result (λ typed. IsTypedExpr scope.now (view e.now) (pure_expr typed.value)) }
 {
     let typed = expr_of(alloc, scope, e)?;
     boxed(alloc, typed)
@@ -98,12 +98,12 @@ fn boxed_of(alloc: Global, scope: &Scope, e: &tree::Expr) -> Result<Box<Expr>, A
 
 /// The typed place of a place without faults.
 #[cycle(typing)]
-pub fn place_of(alloc: Global, scope: &Scope, place: &tree::Place) -> Result<Place, AllocError>
-    ensures { IfOk result (λ typed. IsPlace scope.now (place_view place.now) (pure_place typed)) }
+pub fn place_of(alloc: Global, scope: &Scope, place: &tree::Place) -> Result<TypedPlace, AllocError>
+    ensures { IfOk result (λ typed. IsTypedPlace scope.now (place_view place.now) (pure_place typed)) }
 {
     match place {
-        tree::Place::Whole(name) => Ok(Place::Whole(scope.variable(*name))),
-        tree::Place::Cell { name, index, .. } => Ok(Place::Element {
+        tree::Place::Whole(name) => Ok(TypedPlace::Whole(scope.variable(*name))),
+        tree::Place::Cell { name, index, .. } => Ok(TypedPlace::Element {
             variable: scope.variable(*name),
             index: boxed_of(alloc, scope, index)?,
         }),
@@ -111,13 +111,17 @@ pub fn place_of(alloc: Global, scope: &Scope, place: &tree::Place) -> Result<Pla
 }
 
 #[cycle(typing)]
-fn links_of(alloc: Global, scope: &Scope, links: &[tree::Link]) -> Result<Vec<Link>, AllocError>
-    ensures { IfOk result (λ typed. AreLinks scope.now (links_from (map piece links.now)) (pure_links typed.items)) }
+fn links_of(
+    alloc: Global,
+    scope: &Scope,
+    links: &[tree::Link],
+) -> Result<Vec<TypedLink>, AllocError>
+    ensures { IfOk result (λ typed. AreTypedLinks scope.now (links_from (map piece links.now)) (pure_links typed.items)) }
 {
     let mut typed = Vec::new(alloc);
     for link in links {
         let operand = expr_of(alloc, scope, &link.operand)?;
-        typed.push(Link {
+        typed.push(TypedLink {
             operator: operator_of(link.operator),
             operand,
         })?;

@@ -9,7 +9,7 @@ use Rattle.c_names.specs.declared.predefined.Predefined.TheVariants as p
 use Rattle.c_program.specs.Tree.{MpiCall}
 use Rattle.c_check.specs.Calls.{predefined_of}
 use Rattle.c_check_expr.specs.Scopes.{Env}
-use Rattle.c_type_expr.specs.MpiArguments.{Fits, argument, is_status, is_status_by}
+use Rattle.c_type_expr.specs.inside.MpiArguments.{FitsFunction, argument, is_status, is_status_by}
 use Rattle.c_type_mpi.specs.MpiCalls as y
 use Rattle.c_type_mpi.specs.MpiCalls.{IsMpiCall, IsStatus}
 
@@ -22,7 +22,7 @@ tabled : (given : List t.Argument) → table (length given) (argument given) ≡
 tabled [] = refl
 tabled (one ∷ more) = ap (λ all. one ∷ all) (tabled more)
 
-pub by_places : (env : Env) (function : MpiFunction) (given : List t.Argument) (typed : MpiCall) → Fits env function given
+pub by_places : (env : Env) (function : MpiFunction) (given : List t.Argument) (typed : MpiCall) → FitsFunction env function given
     → IsMpiCall env function (table (length (arguments function)) (argument given)) typed → IsMpiCall env function given typed
 by_places env function given typed f h =
     let P : List t.Argument → Type 0 = λ all. IsMpiCall env function all typed in

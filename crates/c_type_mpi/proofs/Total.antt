@@ -7,11 +7,11 @@ use Rattle.c_names.specs.declared.function.MpiFunction.TheVariants as f
 use Rattle.c_names.specs.declared.predefined.Predefined.{Predefined}
 use Rattle.c_names.specs.declared.predefined.Predefined.TheVariants as p
 use Rattle.c_program.specs.Tree as pure
-use Rattle.c_program.specs.Tree.{Buffer, Expr, Incoming, MpiCall, Outgoing, Reduction, Reference, SomeRequests}
+use Rattle.c_program.specs.Tree.{Buffer, TypedExpr, Incoming, MpiCall, Outgoing, Reduction, Reference, SomeRequests}
 use Rattle.c_check.specs.Calls.{predefined_of}
 use Rattle.c_check_expr.specs.Scopes.{Env}
-use Rattle.c_type_expr.specs.Calls.{IsReference, IsValue}
-use Rattle.c_type_expr.specs.MpiArguments.{Fits, argument, is_operation, is_status}
+use Rattle.c_type_expr.specs.Calls.{IsReference, IsTypedValue}
+use Rattle.c_type_expr.specs.inside.MpiArguments.{FitsFunction, argument, is_operation, is_status}
 use Rattle.c_type_expr.specs.Shapes.{has_cells, is_reference, is_value}
 use Rattle.c_type_expr.proofs.Total.{cells_total, reference_total, value_total}
 use Rattle.c_type_mpi.specs.MpiCalls as y
@@ -38,7 +38,7 @@ operation_by (Some p.Fflush) h = absurd (let z : ⊥ = cc in z)
 -- ---- the arguments of a call, by their places
 
 module _ (env : Env) (given : List t.Argument) where
-  value : (place : ℕ) → is_value (argument given place) ≡ true → (typed : Expr) × IsValue env (argument given place) typed
+  value : (place : ℕ) → is_value (argument given place) ≡ true → (typed : TypedExpr) × IsTypedValue env (argument given place) typed
   value place h = value_total env (argument given place) h
 
   reference : (place : ℕ) → is_reference env (argument given place) ≡ true → (typed : Reference) × IsReference env (argument given place) typed
@@ -91,7 +91,7 @@ module _ (env : Env) (given : List t.Argument) where
 
   -- ---- the calls
 
-  pub mpi_total : (function : MpiFunction) → Fits env function given → (typed : MpiCall) × IsMpiCall env function given typed
+  pub mpi_total : (function : MpiFunction) → FitsFunction env function given → (typed : MpiCall) × IsMpiCall env function given typed
   mpi_total f.Init fit = (pure.init, by_places _ _ _ _ fit y.init)
   mpi_total f.Finalize fit = (pure.finalize, by_places _ _ _ _ fit y.finalize)
   mpi_total f.Abort fit =

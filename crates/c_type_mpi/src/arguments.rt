@@ -4,17 +4,17 @@ ghost use Rattle.std.specs.Prelude.{◌≡◌, ◌≤◌, ◌+◌, IfOk, true, o
 ghost use Rattle.c_grammar.specs.StmtView.{argument_view};
 ghost use Rattle.c_program.specs.View.{pure_buffer, pure_expr, pure_incoming, pure_outgoing, pure_reduction, pure_reference, pure_several};
 ghost use Rattle.c_check.specs.Calls.{predefined_of};
-ghost use Rattle.c_type_expr.specs.Calls.{IsReference, IsValue};
-ghost use Rattle.c_type_expr.specs.MpiArguments.{argument, given_of, is_operation, is_status};
+ghost use Rattle.c_type_expr.specs.Calls.{IsReference, IsTypedValue};
+ghost use Rattle.c_type_expr.specs.inside.MpiArguments.{argument, given_of, is_operation, is_status};
 ghost use Rattle.c_type_expr.specs.Shapes.{is_reference, is_value};
 ghost use Rattle.c_type_mpi.specs.MpiCalls.{IsBuffer, IsIncoming, IsOperation, IsOutgoing, IsReduction, IsSeveral, IsStatus};
 
 use c_check::argument::predefined_of;
 use c_check::call::argument_at;
 use c_check_expr::scope::Scope;
-use c_grammar::statement::{Argument, Call};
+use c_grammar::statement::{Argument, WrittenCall};
 use c_names::predefined::Predefined;
-use c_program::expr::{Expr, Reference};
+use c_program::expr::{Reference, TypedExpr};
 use c_program::mpi::{Buffer, Incoming, Outgoing, Reduction, SomeRequests};
 use c_type_expr::call_of::{reference_of, value_of};
 use c_type_expr::results::{zip, zip3, zip5};
@@ -53,13 +53,13 @@ fn operation_of(scope: &Scope, argument: &Argument) -> Op
 pub(crate) struct Arguments<'a> {
     pub(crate) alloc: Global,
     pub(crate) scope: &'a Scope<'a>,
-    pub(crate) call: &'a Call,
+    pub(crate) call: &'a WrittenCall,
 }
 
 impl<'a> Arguments<'a> {
-    pub(crate) fn value(&self, place: usize) -> Result<Expr, AllocError>
+    pub(crate) fn value(&self, place: usize) -> Result<TypedExpr, AllocError>
         requires { is_value (argument (given_of self.now.call.now) place) ≡ true }
-        ensures { IfOk result (λ typed. IsValue self.now.scope.now (argument (given_of self.now.call.now) place) (pure_expr typed)) }
+        ensures { IfOk result (λ typed. IsTypedValue self.now.scope.now (argument (given_of self.now.call.now) place) (pure_expr typed)) }
     {
         match argument_at(self.call, place) {
             Some(argument) => value_of(self.alloc, self.scope, argument),

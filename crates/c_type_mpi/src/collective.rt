@@ -3,7 +3,7 @@
 ghost use Rattle.std.specs.Prelude.{IfOk};
 ghost use Rattle.c_names.specs.declared.function.MpiFunction.TheVariants as f;
 ghost use Rattle.c_program.specs.View.{pure_mpi};
-ghost use Rattle.c_type_expr.specs.MpiArguments.{Fits, given_of};
+ghost use Rattle.c_type_expr.specs.inside.MpiArguments.{FitsFunction, given_of};
 ghost use Rattle.c_type_mpi.specs.MpiCalls.{IsMpiCall};
 
 use crate::arguments::Arguments;
@@ -13,7 +13,7 @@ use std::alloc::AllocError;
 
 impl<'a> Arguments<'a> {
     pub(crate) fn barrier(&self) -> Result<MpiCall, AllocError>
-        requires { Fits self.now.scope.now f.Barrier (given_of self.now.call.now) }
+        requires { FitsFunction self.now.scope.now f.Barrier (given_of self.now.call.now) }
         ensures { IfOk result (λ typed. IsMpiCall self.now.scope.now f.Barrier (given_of self.now.call.now) (pure_mpi typed)) }
     {
         let comm = self.value(0)?;
@@ -21,7 +21,7 @@ impl<'a> Arguments<'a> {
     }
 
     pub(crate) fn bcast(&self) -> Result<MpiCall, AllocError>
-        requires { Fits self.now.scope.now f.Bcast (given_of self.now.call.now) }
+        requires { FitsFunction self.now.scope.now f.Bcast (given_of self.now.call.now) }
         ensures { IfOk result (λ typed. IsMpiCall self.now.scope.now f.Bcast (given_of self.now.call.now) (pure_mpi typed)) }
     {
         let (buffer, root, comm) = zip3(self.buffer(0, 1), self.value(3), self.value(4))?;
@@ -29,7 +29,7 @@ impl<'a> Arguments<'a> {
     }
 
     pub(crate) fn gather(&self) -> Result<MpiCall, AllocError>
-        requires { Fits self.now.scope.now f.Gather (given_of self.now.call.now) }
+        requires { FitsFunction self.now.scope.now f.Gather (given_of self.now.call.now) }
         ensures { IfOk result (λ typed. IsMpiCall self.now.scope.now f.Gather (given_of self.now.call.now) (pure_mpi typed)) }
     {
         let (send, receive, root, comm) = zip4(
@@ -47,7 +47,7 @@ impl<'a> Arguments<'a> {
     }
 
     pub(crate) fn scatter(&self) -> Result<MpiCall, AllocError>
-        requires { Fits self.now.scope.now f.Scatter (given_of self.now.call.now) }
+        requires { FitsFunction self.now.scope.now f.Scatter (given_of self.now.call.now) }
         ensures { IfOk result (λ typed. IsMpiCall self.now.scope.now f.Scatter (given_of self.now.call.now) (pure_mpi typed)) }
     {
         let (send, receive, root, comm) = zip4(
@@ -65,7 +65,7 @@ impl<'a> Arguments<'a> {
     }
 
     pub(crate) fn allgather(&self) -> Result<MpiCall, AllocError>
-        requires { Fits self.now.scope.now f.Allgather (given_of self.now.call.now) }
+        requires { FitsFunction self.now.scope.now f.Allgather (given_of self.now.call.now) }
         ensures { IfOk result (λ typed. IsMpiCall self.now.scope.now f.Allgather (given_of self.now.call.now) (pure_mpi typed)) }
     {
         let (send, receive, comm) = zip3(self.buffer(0, 1), self.buffer(3, 4), self.value(6))?;
@@ -77,7 +77,7 @@ impl<'a> Arguments<'a> {
     }
 
     pub(crate) fn alltoall(&self) -> Result<MpiCall, AllocError>
-        requires { Fits self.now.scope.now f.Alltoall (given_of self.now.call.now) }
+        requires { FitsFunction self.now.scope.now f.Alltoall (given_of self.now.call.now) }
         ensures { IfOk result (λ typed. IsMpiCall self.now.scope.now f.Alltoall (given_of self.now.call.now) (pure_mpi typed)) }
     {
         let (send, receive, comm) = zip3(self.buffer(0, 1), self.buffer(3, 4), self.value(6))?;
@@ -89,7 +89,7 @@ impl<'a> Arguments<'a> {
     }
 
     pub(crate) fn reduce(&self) -> Result<MpiCall, AllocError>
-        requires { Fits self.now.scope.now f.Reduce (given_of self.now.call.now) }
+        requires { FitsFunction self.now.scope.now f.Reduce (given_of self.now.call.now) }
         ensures { IfOk result (λ typed. IsMpiCall self.now.scope.now f.Reduce (given_of self.now.call.now) (pure_mpi typed)) }
     {
         let (reduction, root, comm) = zip3(self.reduction(), self.value(5), self.value(6))?;
@@ -101,7 +101,7 @@ impl<'a> Arguments<'a> {
     }
 
     pub(crate) fn allreduce(&self) -> Result<MpiCall, AllocError>
-        requires { Fits self.now.scope.now f.Allreduce (given_of self.now.call.now) }
+        requires { FitsFunction self.now.scope.now f.Allreduce (given_of self.now.call.now) }
         ensures { IfOk result (λ typed. IsMpiCall self.now.scope.now f.Allreduce (given_of self.now.call.now) (pure_mpi typed)) }
     {
         let (reduction, comm) = zip(self.reduction(), self.value(5))?;
@@ -109,7 +109,7 @@ impl<'a> Arguments<'a> {
     }
 
     pub(crate) fn scan(&self) -> Result<MpiCall, AllocError>
-        requires { Fits self.now.scope.now f.Scan (given_of self.now.call.now) }
+        requires { FitsFunction self.now.scope.now f.Scan (given_of self.now.call.now) }
         ensures { IfOk result (λ typed. IsMpiCall self.now.scope.now f.Scan (given_of self.now.call.now) (pure_mpi typed)) }
     {
         let (reduction, comm) = zip(self.reduction(), self.value(5))?;
@@ -117,7 +117,7 @@ impl<'a> Arguments<'a> {
     }
 
     pub(crate) fn comm_size(&self) -> Result<MpiCall, AllocError>
-        requires { Fits self.now.scope.now f.CommSize (given_of self.now.call.now) }
+        requires { FitsFunction self.now.scope.now f.CommSize (given_of self.now.call.now) }
         ensures { IfOk result (λ typed. IsMpiCall self.now.scope.now f.CommSize (given_of self.now.call.now) (pure_mpi typed)) }
     {
         let (comm, size) = zip(self.value(0), self.reference(1))?;
@@ -125,7 +125,7 @@ impl<'a> Arguments<'a> {
     }
 
     pub(crate) fn comm_rank(&self) -> Result<MpiCall, AllocError>
-        requires { Fits self.now.scope.now f.CommRank (given_of self.now.call.now) }
+        requires { FitsFunction self.now.scope.now f.CommRank (given_of self.now.call.now) }
         ensures { IfOk result (λ typed. IsMpiCall self.now.scope.now f.CommRank (given_of self.now.call.now) (pure_mpi typed)) }
     {
         let (comm, rank) = zip(self.value(0), self.reference(1))?;
@@ -133,7 +133,7 @@ impl<'a> Arguments<'a> {
     }
 
     pub(crate) fn comm_dup(&self) -> Result<MpiCall, AllocError>
-        requires { Fits self.now.scope.now f.CommDup (given_of self.now.call.now) }
+        requires { FitsFunction self.now.scope.now f.CommDup (given_of self.now.call.now) }
         ensures { IfOk result (λ typed. IsMpiCall self.now.scope.now f.CommDup (given_of self.now.call.now) (pure_mpi typed)) }
     {
         let (comm, made) = zip(self.value(0), self.reference(1))?;
@@ -141,7 +141,7 @@ impl<'a> Arguments<'a> {
     }
 
     pub(crate) fn comm_split(&self) -> Result<MpiCall, AllocError>
-        requires { Fits self.now.scope.now f.CommSplit (given_of self.now.call.now) }
+        requires { FitsFunction self.now.scope.now f.CommSplit (given_of self.now.call.now) }
         ensures { IfOk result (λ typed. IsMpiCall self.now.scope.now f.CommSplit (given_of self.now.call.now) (pure_mpi typed)) }
     {
         let (comm, color, key, made) = zip4(
@@ -159,7 +159,7 @@ impl<'a> Arguments<'a> {
     }
 
     pub(crate) fn comm_free(&self) -> Result<MpiCall, AllocError>
-        requires { Fits self.now.scope.now f.CommFree (given_of self.now.call.now) }
+        requires { FitsFunction self.now.scope.now f.CommFree (given_of self.now.call.now) }
         ensures { IfOk result (λ typed. IsMpiCall self.now.scope.now f.CommFree (given_of self.now.call.now) (pure_mpi typed)) }
     {
         let comm = self.reference(0)?;

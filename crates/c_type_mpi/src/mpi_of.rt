@@ -8,12 +8,12 @@ ghost use Rattle.c_program.specs.View.{pure_mpi};
 ghost use Rattle.c_check.specs.Calls.{arguments_of, call_faults};
 ghost use Rattle.c_check_expr.specs.Scopes.{meaning};
 ghost use Rattle.c_check_expr.specs.declared.meaning.Meaning.TheVariants as m;
-ghost use Rattle.c_type_expr.specs.MpiArguments.{Fits, given_of};
+ghost use Rattle.c_type_expr.specs.inside.MpiArguments.{FitsFunction, given_of};
 ghost use Rattle.c_type_mpi.specs.MpiCalls.{IsMpiCall};
 
 use crate::arguments::Arguments;
 use c_check_expr::scope::Scope;
-use c_grammar::statement::Call;
+use c_grammar::statement::WrittenCall;
 use c_names::function::MpiFunction;
 use c_program::mpi::MpiCall;
 use c_type_expr::results::zip;
@@ -21,7 +21,7 @@ use std::alloc::{AllocError, Global};
 
 impl<'a> Arguments<'a> {
     fn abort(&self) -> Result<MpiCall, AllocError>
-        requires { Fits self.now.scope.now f.Abort (given_of self.now.call.now) }
+        requires { FitsFunction self.now.scope.now f.Abort (given_of self.now.call.now) }
         ensures { IfOk result (λ typed. IsMpiCall self.now.scope.now f.Abort (given_of self.now.call.now) (pure_mpi typed)) }
     {
         let (comm, code) = zip(self.value(0), self.value(1))?;
@@ -30,7 +30,7 @@ impl<'a> Arguments<'a> {
 
     /// The call, by its function.
     fn typed(&self, function: MpiFunction) -> Result<MpiCall, AllocError>
-        requires { Fits self.now.scope.now function (given_of self.now.call.now) }
+        requires { FitsFunction self.now.scope.now function (given_of self.now.call.now) }
         ensures { IfOk result (λ typed. IsMpiCall self.now.scope.now function (given_of self.now.call.now) (pure_mpi typed)) }
     {
         match function {
@@ -78,7 +78,7 @@ pub fn mpi_call_of(
     alloc: Global,
     scope: &Scope,
     function: MpiFunction,
-    call: &Call,
+    call: &WrittenCall,
 ) -> Result<MpiCall, AllocError>
     requires function { meaning scope.now call.now.name ≡ m.Known (p.Mpi function) }
     requires faults { call_faults scope.now (call_view call.now) ≡ [] }

@@ -3,7 +3,7 @@
 ghost use Rattle.std.specs.Prelude.{IfOk};
 ghost use Rattle.c_names.specs.declared.function.MpiFunction.TheVariants as f;
 ghost use Rattle.c_program.specs.View.{pure_mpi};
-ghost use Rattle.c_type_expr.specs.MpiArguments.{Fits, given_of};
+ghost use Rattle.c_type_expr.specs.inside.MpiArguments.{FitsFunction, given_of};
 ghost use Rattle.c_type_mpi.specs.MpiCalls.{IsMpiCall};
 
 use crate::arguments::Arguments;
@@ -13,7 +13,7 @@ use std::alloc::AllocError;
 
 impl<'a> Arguments<'a> {
     pub(crate) fn send(&self) -> Result<MpiCall, AllocError>
-        requires { Fits self.now.scope.now f.Send (given_of self.now.call.now) }
+        requires { FitsFunction self.now.scope.now f.Send (given_of self.now.call.now) }
         ensures { IfOk result (λ typed. IsMpiCall self.now.scope.now f.Send (given_of self.now.call.now) (pure_mpi typed)) }
     {
         let (message, comm) = zip(self.outgoing(), self.value(5))?;
@@ -21,7 +21,7 @@ impl<'a> Arguments<'a> {
     }
 
     pub(crate) fn ssend(&self) -> Result<MpiCall, AllocError>
-        requires { Fits self.now.scope.now f.Ssend (given_of self.now.call.now) }
+        requires { FitsFunction self.now.scope.now f.Ssend (given_of self.now.call.now) }
         ensures { IfOk result (λ typed. IsMpiCall self.now.scope.now f.Ssend (given_of self.now.call.now) (pure_mpi typed)) }
     {
         let (message, comm) = zip(self.outgoing(), self.value(5))?;
@@ -29,7 +29,7 @@ impl<'a> Arguments<'a> {
     }
 
     pub(crate) fn recv(&self) -> Result<MpiCall, AllocError>
-        requires { Fits self.now.scope.now f.Recv (given_of self.now.call.now) }
+        requires { FitsFunction self.now.scope.now f.Recv (given_of self.now.call.now) }
         ensures { IfOk result (λ typed. IsMpiCall self.now.scope.now f.Recv (given_of self.now.call.now) (pure_mpi typed)) }
     {
         let (message, comm, status) = zip3(self.incoming(0), self.value(5), self.status(6))?;
@@ -41,7 +41,7 @@ impl<'a> Arguments<'a> {
     }
 
     pub(crate) fn isend(&self) -> Result<MpiCall, AllocError>
-        requires { Fits self.now.scope.now f.Isend (given_of self.now.call.now) }
+        requires { FitsFunction self.now.scope.now f.Isend (given_of self.now.call.now) }
         ensures { IfOk result (λ typed. IsMpiCall self.now.scope.now f.Isend (given_of self.now.call.now) (pure_mpi typed)) }
     {
         let (message, comm, request) = zip3(self.outgoing(), self.value(5), self.reference(6))?;
@@ -53,7 +53,7 @@ impl<'a> Arguments<'a> {
     }
 
     pub(crate) fn issend(&self) -> Result<MpiCall, AllocError>
-        requires { Fits self.now.scope.now f.Issend (given_of self.now.call.now) }
+        requires { FitsFunction self.now.scope.now f.Issend (given_of self.now.call.now) }
         ensures { IfOk result (λ typed. IsMpiCall self.now.scope.now f.Issend (given_of self.now.call.now) (pure_mpi typed)) }
     {
         let (message, comm, request) = zip3(self.outgoing(), self.value(5), self.reference(6))?;
@@ -65,7 +65,7 @@ impl<'a> Arguments<'a> {
     }
 
     pub(crate) fn irecv(&self) -> Result<MpiCall, AllocError>
-        requires { Fits self.now.scope.now f.Irecv (given_of self.now.call.now) }
+        requires { FitsFunction self.now.scope.now f.Irecv (given_of self.now.call.now) }
         ensures { IfOk result (λ typed. IsMpiCall self.now.scope.now f.Irecv (given_of self.now.call.now) (pure_mpi typed)) }
     {
         let (message, comm, request) = zip3(self.incoming(0), self.value(5), self.reference(6))?;
@@ -77,7 +77,7 @@ impl<'a> Arguments<'a> {
     }
 
     pub(crate) fn sendrecv(&self) -> Result<MpiCall, AllocError>
-        requires { Fits self.now.scope.now f.Sendrecv (given_of self.now.call.now) }
+        requires { FitsFunction self.now.scope.now f.Sendrecv (given_of self.now.call.now) }
         ensures { IfOk result (λ typed. IsMpiCall self.now.scope.now f.Sendrecv (given_of self.now.call.now) (pure_mpi typed)) }
     {
         let (send, receive, comm, status) = zip4(
@@ -95,7 +95,7 @@ impl<'a> Arguments<'a> {
     }
 
     pub(crate) fn wait(&self) -> Result<MpiCall, AllocError>
-        requires { Fits self.now.scope.now f.Wait (given_of self.now.call.now) }
+        requires { FitsFunction self.now.scope.now f.Wait (given_of self.now.call.now) }
         ensures { IfOk result (λ typed. IsMpiCall self.now.scope.now f.Wait (given_of self.now.call.now) (pure_mpi typed)) }
     {
         let (request, status) = zip(self.reference(0), self.status(1))?;
@@ -103,7 +103,7 @@ impl<'a> Arguments<'a> {
     }
 
     pub(crate) fn test(&self) -> Result<MpiCall, AllocError>
-        requires { Fits self.now.scope.now f.Test (given_of self.now.call.now) }
+        requires { FitsFunction self.now.scope.now f.Test (given_of self.now.call.now) }
         ensures { IfOk result (λ typed. IsMpiCall self.now.scope.now f.Test (given_of self.now.call.now) (pure_mpi typed)) }
     {
         let (request, flag, status) = zip3(self.reference(0), self.reference(1), self.status(2))?;
@@ -115,7 +115,7 @@ impl<'a> Arguments<'a> {
     }
 
     pub(crate) fn waitany(&self) -> Result<MpiCall, AllocError>
-        requires { Fits self.now.scope.now f.Waitany (given_of self.now.call.now) }
+        requires { FitsFunction self.now.scope.now f.Waitany (given_of self.now.call.now) }
         ensures { IfOk result (λ typed. IsMpiCall self.now.scope.now f.Waitany (given_of self.now.call.now) (pure_mpi typed)) }
     {
         let (count, requests, index, status) = zip4(
@@ -133,7 +133,7 @@ impl<'a> Arguments<'a> {
     }
 
     pub(crate) fn testany(&self) -> Result<MpiCall, AllocError>
-        requires { Fits self.now.scope.now f.Testany (given_of self.now.call.now) }
+        requires { FitsFunction self.now.scope.now f.Testany (given_of self.now.call.now) }
         ensures { IfOk result (λ typed. IsMpiCall self.now.scope.now f.Testany (given_of self.now.call.now) (pure_mpi typed)) }
     {
         let (count, requests, index, flag, status) = zip5(
@@ -153,7 +153,7 @@ impl<'a> Arguments<'a> {
     }
 
     pub(crate) fn waitall(&self) -> Result<MpiCall, AllocError>
-        requires { Fits self.now.scope.now f.Waitall (given_of self.now.call.now) }
+        requires { FitsFunction self.now.scope.now f.Waitall (given_of self.now.call.now) }
         ensures { IfOk result (λ typed. IsMpiCall self.now.scope.now f.Waitall (given_of self.now.call.now) (pure_mpi typed)) }
     {
         let (count, requests, statuses) = zip3(self.value(0), self.reference(1), self.status(2))?;
@@ -165,7 +165,7 @@ impl<'a> Arguments<'a> {
     }
 
     pub(crate) fn testall(&self) -> Result<MpiCall, AllocError>
-        requires { Fits self.now.scope.now f.Testall (given_of self.now.call.now) }
+        requires { FitsFunction self.now.scope.now f.Testall (given_of self.now.call.now) }
         ensures { IfOk result (λ typed. IsMpiCall self.now.scope.now f.Testall (given_of self.now.call.now) (pure_mpi typed)) }
     {
         let (count, requests, flag, statuses) = zip4(
@@ -183,7 +183,7 @@ impl<'a> Arguments<'a> {
     }
 
     pub(crate) fn waitsome(&self) -> Result<MpiCall, AllocError>
-        requires { Fits self.now.scope.now f.Waitsome (given_of self.now.call.now) }
+        requires { FitsFunction self.now.scope.now f.Waitsome (given_of self.now.call.now) }
         ensures { IfOk result (λ typed. IsMpiCall self.now.scope.now f.Waitsome (given_of self.now.call.now) (pure_mpi typed)) }
     {
         let several = self.several()?;
@@ -191,7 +191,7 @@ impl<'a> Arguments<'a> {
     }
 
     pub(crate) fn testsome(&self) -> Result<MpiCall, AllocError>
-        requires { Fits self.now.scope.now f.Testsome (given_of self.now.call.now) }
+        requires { FitsFunction self.now.scope.now f.Testsome (given_of self.now.call.now) }
         ensures { IfOk result (λ typed. IsMpiCall self.now.scope.now f.Testsome (given_of self.now.call.now) (pure_mpi typed)) }
     {
         let several = self.several()?;
@@ -199,7 +199,7 @@ impl<'a> Arguments<'a> {
     }
 
     pub(crate) fn probe(&self) -> Result<MpiCall, AllocError>
-        requires { Fits self.now.scope.now f.Probe (given_of self.now.call.now) }
+        requires { FitsFunction self.now.scope.now f.Probe (given_of self.now.call.now) }
         ensures { IfOk result (λ typed. IsMpiCall self.now.scope.now f.Probe (given_of self.now.call.now) (pure_mpi typed)) }
     {
         let (source, tag, comm, status) = zip4(
@@ -217,7 +217,7 @@ impl<'a> Arguments<'a> {
     }
 
     pub(crate) fn iprobe(&self) -> Result<MpiCall, AllocError>
-        requires { Fits self.now.scope.now f.Iprobe (given_of self.now.call.now) }
+        requires { FitsFunction self.now.scope.now f.Iprobe (given_of self.now.call.now) }
         ensures { IfOk result (λ typed. IsMpiCall self.now.scope.now f.Iprobe (given_of self.now.call.now) (pure_mpi typed)) }
     {
         let (source, tag, comm, flag, status) = zip5(
@@ -237,7 +237,7 @@ impl<'a> Arguments<'a> {
     }
 
     pub(crate) fn get_count(&self) -> Result<MpiCall, AllocError>
-        requires { Fits self.now.scope.now f.GetCount (given_of self.now.call.now) }
+        requires { FitsFunction self.now.scope.now f.GetCount (given_of self.now.call.now) }
         ensures { IfOk result (λ typed. IsMpiCall self.now.scope.now f.GetCount (given_of self.now.call.now) (pure_mpi typed)) }
     {
         let (status, count) = zip(self.status(0), self.reference(2))?;

@@ -22,9 +22,9 @@ use Rattle.c_grammar.proofs.StmtViewed.{view-block, view-empty, view-simple, vie
 use Rattle.c_check.specs.Calls.{right_faults}
 use Rattle.c_check_expr.specs.Expressions.{int_faults}
 use Rattle.c_check_expr.specs.Kinds.{place_first_token}
-use Rattle.c_check_expr.specs.Least.{unless}
+use Rattle.c_check_expr.specs.Least.{fault_unless}
 use Rattle.c_check_expr.specs.Scopes.{Env, opened, twice_faults}
-use Rattle.c_check.specs.Statements.{after_item, after_items, after_part, after_parts, after_start, begins_with, begun_takes, can_begin, declaration_faults, declared_entity, initial_faults, item_faults, items_faults, part_faults, parts_faults, place_length_faults, return_faults, simple_faults, start_faults, step_faults, stmt_faults, test_faults}
+use Rattle.c_check.specs.Statements.{after_item, after_declarators, after_part, after_parts, after_start, begins_with, begun_takes, can_begin, declaration_faults, declared_entity, initial_faults, item_faults, items_faults, part_faults, parts_faults, place_length_faults, return_faults, simple_faults, start_faults, step_faults, stmt_faults, test_faults}
 use Rattle.c_check_expr.specs.declared.meaning.ExprKind.{ExprKind}
 use Rattle.c_check_expr.specs.declared.meaning.ExprKind.TheVariants.{Of, Nothing}
 use Rattle.c_check_expr.specs.declared.meaning.Entity.{Entity}
@@ -34,51 +34,51 @@ use Rattle.c_check_expr.proofs.Rows.{after_comma_viewed}
 use Rattle.c_lex.specs.declared.fault.Why.TheVariants.{WrongType}
 use Rattle.c_names.specs.declared.kind.VariableKind.{VariableKind}
 use Rattle.c_names.specs.declared.kind.VariableKind.TheVariants.{Int}
-use Rattle.c_program.specs.declared.expr.Expr.{Expr}
-use Rattle.c_program.specs.declared.expr.Right.{Right}
-use Rattle.c_program.specs.declared.statement.Declaration.{Declaration}
-use Rattle.c_program.specs.declared.statement.ForStart.{ForStart}
-use Rattle.c_program.specs.declared.statement.InitDeclarator.{InitDeclarator}
-use Rattle.c_program.specs.declared.statement.Part.{Part}
-use Rattle.c_program.specs.declared.statement.Part.TheVariants as q
-use Rattle.c_program.specs.declared.statement.Simple.{Simple}
-use Rattle.c_program.specs.declared.statement.Stmt.{Stmt}
-use Rattle.c_program.specs.declared.statement.Stmt.TheVariants as s
+use Rattle.c_program.specs.declared.expr.TypedExpr.{TypedExpr}
+use Rattle.c_program.specs.declared.expr.TypedRight.{TypedRight}
+use Rattle.c_program.specs.declared.statement.TypedDeclaration.{TypedDeclaration}
+use Rattle.c_program.specs.declared.statement.TypedForStart.{TypedForStart}
+use Rattle.c_program.specs.declared.statement.TypedInitDeclarator.{TypedInitDeclarator}
+use Rattle.c_program.specs.declared.statement.TypedPart.{TypedPart}
+use Rattle.c_program.specs.declared.statement.TypedPart.TheVariants as q
+use Rattle.c_program.specs.declared.statement.TypedSimple.{TypedSimple}
+use Rattle.c_program.specs.declared.statement.TypedStmt.{TypedStmt}
+use Rattle.c_program.specs.declared.statement.TypedStmt.TheVariants as s
 use Rattle.c_program.specs.View.{pure_declaration, pure_expr, pure_item, pure_part, pure_parts, pure_right, pure_simple, pure_start, pure_stmt}
 use Rattle.c_program.proofs.StmtViewed.{pure-block, pure-break, pure-continue, pure-declare, pure-do_while, pure-empty, pure-for, pure-if_else, pure-if_only, pure-return, pure-simple, pure-stmt, pure-while}
-use Rattle.c_type_expr.specs.Exprs.{IsExpr}
+use Rattle.c_type_expr.specs.Exprs.{IsTypedExpr}
 use Rattle.c_type_stmt.specs.Statements as x
-use Rattle.c_type_stmt.specs.Statements.{AreExprs, AreItems, AreParts, IsDeclaration, IsItem, IsPart, IsReturn, IsSimple, IsStart, IsStep, IsStmt, IsTest}
+use Rattle.c_type_stmt.specs.Statements.{AreTypedExprs, AreTypedItems, AreTypedParts, IsTypedDeclaration, IsTypedItem, IsTypedPart, IsReturn, IsTypedSimple, IsTypedForStart, IsTypedStep, IsTypedStmt, IsTest}
 use Rattle.c_type_expr.proofs.Faultless.{none_before, none_behind}
 use Rattle.c_type_stmt.proofs.Growing.{ended, grown}
 
 -- ---- values in braces
 
-pub exprs_more : (env : Env) (values : List (AfterComma source_expr.Expr)) (i : ℕ) (value : AfterComma source_expr.Expr) (whole : List t.Expr) (before after : List Expr) (typed : Expr)
-    → after ≡ before ++ typed ∷ [] → i < length values → value ≡ get_or values i value → IsExpr env (view value.item) (pure_expr typed)
-    → ((more : List Expr) → AreExprs env (after_comma_viewed view (drop i values)) (map pure_expr more) → AreExprs env whole (map pure_expr (before ++ more)))
-    → (more : List Expr) → AreExprs env (after_comma_viewed view (drop (i + 1) values)) (map pure_expr more) → AreExprs env whole (map pure_expr (after ++ more))
+pub exprs_more : (env : Env) (values : List (AfterComma source_expr.Expr)) (i : ℕ) (value : AfterComma source_expr.Expr) (whole : List t.Expr) (before after : List TypedExpr) (typed : TypedExpr)
+    → after ≡ before ++ typed ∷ [] → i < length values → value ≡ get_or values i value → IsTypedExpr env (view value.item) (pure_expr typed)
+    → ((more : List TypedExpr) → AreTypedExprs env (after_comma_viewed view (drop i values)) (map pure_expr more) → AreTypedExprs env whole (map pure_expr (before ++ more)))
+    → (more : List TypedExpr) → AreTypedExprs env (after_comma_viewed view (drop (i + 1) values)) (map pure_expr more) → AreTypedExprs env whole (map pure_expr (after ++ more))
 exprs_more env values i value whole before after typed e less is h =
-    let P : List (AfterComma source_expr.Expr) → List Expr → Type 0 = λ left all. AreExprs env (after_comma_viewed view left) (map pure_expr all) in
-    grown (P (drop i values)) (P (drop (i + 1) values)) (λ all. AreExprs env whole (map pure_expr all)) before after typed e
+    let P : List (AfterComma source_expr.Expr) → List TypedExpr → Type 0 = λ left all. AreTypedExprs env (after_comma_viewed view left) (map pure_expr all) in
+    grown (P (drop i values)) (P (drop (i + 1) values)) (λ all. AreTypedExprs env whole (map pure_expr all)) before after typed e
     (λ more rest. subst (λ left. P left (typed ∷ more)) (sym (drop_at values i value less is)) (x.expr h rest))
 
-pub exprs_begin : (env : Env) (first : t.Expr) (values all : List (AfterComma source_expr.Expr)) (after : List Expr) (typed : Expr)
-    → values ≡ all → IsExpr env first (pure_expr typed) → after ≡ typed ∷ []
-    → (more : List Expr) → AreExprs env (after_comma_viewed view values) (map pure_expr more) → AreExprs env (first ∷ after_comma_viewed view all) (map pure_expr (after ++ more))
+pub exprs_begin : (env : Env) (first : t.Expr) (values all : List (AfterComma source_expr.Expr)) (after : List TypedExpr) (typed : TypedExpr)
+    → values ≡ all → IsTypedExpr env first (pure_expr typed) → after ≡ typed ∷ []
+    → (more : List TypedExpr) → AreTypedExprs env (after_comma_viewed view values) (map pure_expr more) → AreTypedExprs env (first ∷ after_comma_viewed view all) (map pure_expr (after ++ more))
 exprs_begin env first values all after typed v h e more rest = rw e (x.expr h (rw v at rest))
 
-pub exprs_end : (env : Env) (values : List (AfterComma source_expr.Expr)) (i : ℕ) (whole : List t.Expr) (typed : List Expr) → length values ≤ i
-    → ((more : List Expr) → AreExprs env (after_comma_viewed view (drop i values)) (map pure_expr more) → AreExprs env whole (map pure_expr (typed ++ more))) → AreExprs env whole (map pure_expr typed)
+pub exprs_end : (env : Env) (values : List (AfterComma source_expr.Expr)) (i : ℕ) (whole : List t.Expr) (typed : List TypedExpr) → length values ≤ i
+    → ((more : List TypedExpr) → AreTypedExprs env (after_comma_viewed view (drop i values)) (map pure_expr more) → AreTypedExprs env whole (map pure_expr (typed ++ more))) → AreTypedExprs env whole (map pure_expr typed)
 exprs_end env values i whole typed past so_far =
-    let P : List (AfterComma source_expr.Expr) → List Expr → Type 0 = λ left all. AreExprs env (after_comma_viewed view left) (map pure_expr all) in
-    ended (P (drop i values)) (λ all. AreExprs env whole (map pure_expr all)) typed (subst (λ left. P left []) (sym (drop_past values i past)) x.no_expr) so_far
+    let P : List (AfterComma source_expr.Expr) → List TypedExpr → Type 0 = λ left all. AreTypedExprs env (after_comma_viewed view left) (map pure_expr all) in
+    ended (P (drop i values)) (λ all. AreTypedExprs env whole (map pure_expr all)) typed (subst (λ left. P left []) (sym (drop_past values i past)) x.no_expr) so_far
 
 -- ---- declarations
 
 pub begun_right : (env : Env) (name mark : Span) (entity : Entity) (right : t.Right) → initial_faults env name entity (Some (t.begun mark right)) ≡ []
     → (wanted : ExprKind) × (right_faults env wanted right ≡ [])
-begun_right env name mark entity right e = (begun_takes (begins_with entity), none_behind (unless (can_begin (begins_with entity)) name WrongType) _ e)
+begun_right env name mark entity right e = (begun_takes (begins_with entity), none_behind (fault_unless (can_begin (begins_with entity)) name WrongType) _ e)
 
 pub item_initial : (env now : Env) (kind : VariableKind) (item : t.InitDeclarator) → now ≡ after_item env kind item → item_faults env kind item ≡ []
     → (name : Span) × (entity : Entity) × (initial_faults now name entity item.initial ≡ [])
@@ -106,32 +106,32 @@ items_next env now kind items i item less is n e =
     rw n (none_behind (item_faults env kind (item_view item.item)) _ all)
 
 pub items_after : (env now last : Env) (kind : VariableKind) (items : List (AfterComma source_item.InitDeclarator)) (i : ℕ) (item : AfterComma source_item.InitDeclarator) → i < length items → item ≡ get_or items i item
-    → now ≡ after_item env kind (item_view item.item) → after_items env kind (after_comma_viewed item_view (drop i items)) ≡ last
-    → after_items now kind (after_comma_viewed item_view (drop (i + 1) items)) ≡ last
+    → now ≡ after_item env kind (item_view item.item) → after_declarators env kind (after_comma_viewed item_view (drop i items)) ≡ last
+    → after_declarators now kind (after_comma_viewed item_view (drop (i + 1) items)) ≡ last
 items_after env now last kind items i item less is n e = rw n (sym (after_items_next env kind items i item less is) ∙ e)
 
 pub items_more : (env start now : Env) (kind : VariableKind) (items : List (AfterComma source_item.InitDeclarator)) (i : ℕ) (item : AfterComma source_item.InitDeclarator) (whole : List t.InitDeclarator)
-    (before after : List InitDeclarator) (typed : InitDeclarator) → after ≡ before ++ typed ∷ [] → i < length items → item ≡ get_or items i item
-    → IsItem env kind (item_view item.item) (pure_item typed) → now ≡ after_item env kind (item_view item.item)
-    → ((more : List InitDeclarator) → AreItems kind env (after_comma_viewed item_view (drop i items)) (map pure_item more) → AreItems kind start whole (map pure_item (before ++ more)))
-    → (more : List InitDeclarator) → AreItems kind now (after_comma_viewed item_view (drop (i + 1) items)) (map pure_item more) → AreItems kind start whole (map pure_item (after ++ more))
+    (before after : List TypedInitDeclarator) (typed : TypedInitDeclarator) → after ≡ before ++ typed ∷ [] → i < length items → item ≡ get_or items i item
+    → IsTypedItem env kind (item_view item.item) (pure_item typed) → now ≡ after_item env kind (item_view item.item)
+    → ((more : List TypedInitDeclarator) → AreTypedItems kind env (after_comma_viewed item_view (drop i items)) (map pure_item more) → AreTypedItems kind start whole (map pure_item (before ++ more)))
+    → (more : List TypedInitDeclarator) → AreTypedItems kind now (after_comma_viewed item_view (drop (i + 1) items)) (map pure_item more) → AreTypedItems kind start whole (map pure_item (after ++ more))
 items_more env start now kind items i item whole before after typed e less is h n =
-    let P : Env → List (AfterComma source_item.InitDeclarator) → List InitDeclarator → Type 0 = λ here left all. AreItems kind here (after_comma_viewed item_view left) (map pure_item all) in
-    grown (P env (drop i items)) (P now (drop (i + 1) items)) (λ all. AreItems kind start whole (map pure_item all)) before after typed e
+    let P : Env → List (AfterComma source_item.InitDeclarator) → List TypedInitDeclarator → Type 0 = λ here left all. AreTypedItems kind here (after_comma_viewed item_view left) (map pure_item all) in
+    grown (P env (drop i items)) (P now (drop (i + 1) items)) (λ all. AreTypedItems kind start whole (map pure_item all)) before after typed e
     (λ more rest. subst (λ left. P env left (typed ∷ more)) (sym (drop_at items i item less is))
     (x.item h (subst (λ here. P here (drop (i + 1) items) more) n rest)))
 
-pub items_begin : (env now : Env) (kind : VariableKind) (first : t.InitDeclarator) (items all : List (AfterComma source_item.InitDeclarator)) (after : List InitDeclarator) (typed : InitDeclarator)
-    → items ≡ all → IsItem env kind first (pure_item typed) → now ≡ after_item env kind first → after ≡ typed ∷ []
-    → (more : List InitDeclarator) → AreItems kind now (after_comma_viewed item_view items) (map pure_item more) → AreItems kind env (first ∷ after_comma_viewed item_view all) (map pure_item (after ++ more))
+pub items_begin : (env now : Env) (kind : VariableKind) (first : t.InitDeclarator) (items all : List (AfterComma source_item.InitDeclarator)) (after : List TypedInitDeclarator) (typed : TypedInitDeclarator)
+    → items ≡ all → IsTypedItem env kind first (pure_item typed) → now ≡ after_item env kind first → after ≡ typed ∷ []
+    → (more : List TypedInitDeclarator) → AreTypedItems kind now (after_comma_viewed item_view items) (map pure_item more) → AreTypedItems kind env (first ∷ after_comma_viewed item_view all) (map pure_item (after ++ more))
 items_begin env now kind first items all after typed v h n e more rest = rw e (x.item h (rw (v, n) at rest))
 
-pub items_end : (env start : Env) (kind meant : VariableKind) (items : List (AfterComma source_item.InitDeclarator)) (i : ℕ) (whole : List t.InitDeclarator) (typed : List InitDeclarator) → kind ≡ meant → length items ≤ i
-    → ((more : List InitDeclarator) → AreItems kind env (after_comma_viewed item_view (drop i items)) (map pure_item more) → AreItems kind start whole (map pure_item (typed ++ more))) → AreItems meant start whole (map pure_item typed)
+pub items_end : (env start : Env) (kind meant : VariableKind) (items : List (AfterComma source_item.InitDeclarator)) (i : ℕ) (whole : List t.InitDeclarator) (typed : List TypedInitDeclarator) → kind ≡ meant → length items ≤ i
+    → ((more : List TypedInitDeclarator) → AreTypedItems kind env (after_comma_viewed item_view (drop i items)) (map pure_item more) → AreTypedItems kind start whole (map pure_item (typed ++ more))) → AreTypedItems meant start whole (map pure_item typed)
 items_end env start kind meant items i whole typed k past so_far =
-    let P : List (AfterComma source_item.InitDeclarator) → List InitDeclarator → Type 0 = λ left all. AreItems kind env (after_comma_viewed item_view left) (map pure_item all) in
-    subst (λ (one : VariableKind). AreItems one start whole (map pure_item typed)) k
-    (ended (P (drop i items)) (λ all. AreItems kind start whole (map pure_item all)) typed (subst (λ left. P left []) (sym (drop_past items i past)) x.no_item) so_far)
+    let P : List (AfterComma source_item.InitDeclarator) → List TypedInitDeclarator → Type 0 = λ left all. AreTypedItems kind env (after_comma_viewed item_view left) (map pure_item all) in
+    subst (λ (one : VariableKind). AreTypedItems one start whole (map pure_item typed)) k
+    (ended (P (drop i items)) (λ all. AreTypedItems kind start whole (map pure_item all)) typed (subst (λ left. P left []) (sym (drop_past items i past)) x.no_item) so_far)
 
 -- ---- what a function gives back
 
@@ -156,11 +156,11 @@ pub block_parts : (env : Env) (stmt : source.Stmt) (opening : Span) (parts : Vec
 block_parts env stmt opening parts closing is f =
     let g : IsFaultless env (t.block opening (parts_view parts.items) closing) = rw (is, view-block) at f in g
 
-pub block_rule : (env : Env) (stmt : source.Stmt) (opening : Span) (parts : Vec source_part.Part Global) (closing : Span) (typed : Vec Part Global)
-    → stmt ≡ ts.Block opening parts closing → AreParts (opened env) (parts_view parts.items) (pure_parts typed.items) → IsStmt env (stmt_view stmt) (pure_stmt (s.Block typed))
+pub block_rule : (env : Env) (stmt : source.Stmt) (opening : Span) (parts : Vec source_part.Part Global) (closing : Span) (typed : Vec TypedPart Global)
+    → stmt ≡ ts.Block opening parts closing → AreTypedParts (opened env) (parts_view parts.items) (pure_parts typed.items) → IsTypedStmt env (stmt_view stmt) (pure_stmt (s.Block typed))
 block_rule env stmt opening parts closing typed is h = rw (is, view-block, pure-block) (x.block h)
 
-pub empty_rule : (env : Env) (stmt : source.Stmt) (at : Span) → stmt ≡ ts.Empty at → IsStmt env (stmt_view stmt) (pure_stmt s.Empty)
+pub empty_rule : (env : Env) (stmt : source.Stmt) (at : Span) → stmt ≡ ts.Empty at → IsTypedStmt env (stmt_view stmt) (pure_stmt s.Empty)
 empty_rule env stmt at is = rw (is, view-empty, pure-empty) x.empty
 
 pub simple_faultless : (env : Env) (stmt : source.Stmt) (simple : source_simple.Simple) (end : Span) → stmt ≡ ts.Simple simple end
@@ -168,14 +168,14 @@ pub simple_faultless : (env : Env) (stmt : source.Stmt) (simple : source_simple.
 simple_faultless env stmt simple end is f =
     let g : IsFaultless env (t.simple (simple_view simple) end) = rw (is, view-simple) at f in g.2
 
-pub simple_rule : (env : Env) (stmt : source.Stmt) (simple : source_simple.Simple) (end : Span) (typed : Simple) → stmt ≡ ts.Simple simple end
-    → IsSimple env (simple_view simple) (pure_simple typed) → IsStmt env (stmt_view stmt) (pure_stmt (s.Simple typed))
+pub simple_rule : (env : Env) (stmt : source.Stmt) (simple : source_simple.Simple) (end : Span) (typed : TypedSimple) → stmt ≡ ts.Simple simple end
+    → IsTypedSimple env (simple_view simple) (pure_simple typed) → IsTypedStmt env (stmt_view stmt) (pure_stmt (s.Simple typed))
 simple_rule env stmt simple end typed is h = rw (is, view-simple, pure-simple) (x.simple h)
 
-pub break_rule : (env : Env) (stmt : source.Stmt) (keyword end : Span) → stmt ≡ ts.Break keyword end → IsStmt env (stmt_view stmt) (pure_stmt s.Break)
+pub break_rule : (env : Env) (stmt : source.Stmt) (keyword end : Span) → stmt ≡ ts.Break keyword end → IsTypedStmt env (stmt_view stmt) (pure_stmt s.Break)
 break_rule env stmt keyword end is = rw (is, view-break, pure-break) x.break
 
-pub continue_rule : (env : Env) (stmt : source.Stmt) (keyword end : Span) → stmt ≡ ts.Continue keyword end → IsStmt env (stmt_view stmt) (pure_stmt s.Continue)
+pub continue_rule : (env : Env) (stmt : source.Stmt) (keyword end : Span) → stmt ≡ ts.Continue keyword end → IsTypedStmt env (stmt_view stmt) (pure_stmt s.Continue)
 continue_rule env stmt keyword end is = rw (is, view-continue, pure-continue) x.continue
 
 pub return_faultless : (env : Env) (stmt : source.Stmt) (keyword : Span) (value : Option source_right.Right) (end : Span) → stmt ≡ ts.Return keyword value end
@@ -183,8 +183,8 @@ pub return_faultless : (env : Env) (stmt : source.Stmt) (keyword : Span) (value 
 return_faultless env stmt keyword value end is f =
     let g : IsFaultless env (t.return keyword (option_map right_view value) end) = rw (is, view-return) at f in (g.0, g.2)
 
-pub return_rule : (env : Env) (stmt : source.Stmt) (keyword : Span) (value : Option source_right.Right) (end : Span) (typed : Option Right) → stmt ≡ ts.Return keyword value end
-    → IsReturn env (option_map right_view value) (option_map pure_right typed) → IsStmt env (stmt_view stmt) (pure_stmt (s.Return typed))
+pub return_rule : (env : Env) (stmt : source.Stmt) (keyword : Span) (value : Option source_right.Right) (end : Span) (typed : Option TypedRight) → stmt ≡ ts.Return keyword value end
+    → IsReturn env (option_map right_view value) (option_map pure_right typed) → IsTypedStmt env (stmt_view stmt) (pure_stmt (s.Return typed))
 return_rule env stmt keyword value end typed is h = rw (is, view-return, pure-return) (x.return h)
 
 pub if_taken : (env : Env) (stmt : source.Stmt) (keyword opening : Span) (test : source_expr.Expr) (closing : Span) (then : Box source.Stmt Global)
@@ -193,8 +193,8 @@ if_taken env stmt keyword opening test closing then is f =
     let g : IsFaultless env (t.if_only keyword opening (view test) closing (stmt_view then.value)) = rw (is, view-if_only) at f in
     (g.0, g.1, none_behind (int_faults env (view test)) _ g.2)
 
-pub if_rule : (env : Env) (stmt : source.Stmt) (keyword opening : Span) (test : source_expr.Expr) (closing : Span) (then : Box source.Stmt Global) (e : Expr) (a : Box Stmt Global)
-    → stmt ≡ ts.If keyword opening test closing then → IsExpr env (view test) (pure_expr e) → IsStmt env (stmt_view then.value) (pure_stmt a.value) → IsStmt env (stmt_view stmt) (pure_stmt (s.If e a))
+pub if_rule : (env : Env) (stmt : source.Stmt) (keyword opening : Span) (test : source_expr.Expr) (closing : Span) (then : Box source.Stmt Global) (e : TypedExpr) (a : Box TypedStmt Global)
+    → stmt ≡ ts.If keyword opening test closing then → IsTypedExpr env (view test) (pure_expr e) → IsTypedStmt env (stmt_view then.value) (pure_stmt a.value) → IsTypedStmt env (stmt_view stmt) (pure_stmt (s.If e a))
 if_rule env stmt keyword opening test closing then e a is h k = rw (is, view-if_only, pure-if_only) (x.if_only h k)
 
 -- an `if` with an `else` and its parts
@@ -213,9 +213,9 @@ module _ (env : Env) (stmt : source.Stmt) (keyword opening : Span) (test : sourc
       let g : IsFaultless env if_else = rw (is, view-if_else) at f in
       rw n (g.0, g.1, none_behind (int_faults env (view test) ++ stmt_faults env g.0 g.1 (stmt_view then.value)) _ g.2)
 
-  pub if_else_rule : (now : Env) (typed : Stmt) (e : Expr) (a b : Box Stmt Global) → now ≡ env → typed ≡ s.IfElse e a b
-      → IsExpr env (view test) (pure_expr e) → IsStmt env (stmt_view then.value) (pure_stmt a.value) → IsStmt now (stmt_view other.value) (pure_stmt b.value)
-      → IsStmt env (stmt_view stmt) (pure_stmt typed)
+  pub if_else_rule : (now : Env) (typed : TypedStmt) (e : TypedExpr) (a b : Box TypedStmt Global) → now ≡ env → typed ≡ s.IfElse e a b
+      → IsTypedExpr env (view test) (pure_expr e) → IsTypedStmt env (stmt_view then.value) (pure_stmt a.value) → IsTypedStmt now (stmt_view other.value) (pure_stmt b.value)
+      → IsTypedStmt env (stmt_view stmt) (pure_stmt typed)
   if_else_rule now typed e a b n same h k l = rw (same, is, view-if_else, pure-if_else) (x.if_else h k (rw n at l))
 
 pub while_body : (env : Env) (stmt : source.Stmt) (keyword opening : Span) (test : source_expr.Expr) (closing : Span) (body : Box source.Stmt Global)
@@ -224,8 +224,8 @@ while_body env stmt keyword opening test closing body is f =
     let g : IsFaultless env (t.while keyword opening (view test) closing (stmt_view body.value)) = rw (is, view-while) at f in
     (g.0, true, none_behind (int_faults env (view test)) _ g.2)
 
-pub while_rule : (env : Env) (stmt : source.Stmt) (keyword opening : Span) (test : source_expr.Expr) (closing : Span) (body : Box source.Stmt Global) (e : Expr) (a : Box Stmt Global)
-    → stmt ≡ ts.While keyword opening test closing body → IsExpr env (view test) (pure_expr e) → IsStmt env (stmt_view body.value) (pure_stmt a.value) → IsStmt env (stmt_view stmt) (pure_stmt (s.While e a))
+pub while_rule : (env : Env) (stmt : source.Stmt) (keyword opening : Span) (test : source_expr.Expr) (closing : Span) (body : Box source.Stmt Global) (e : TypedExpr) (a : Box TypedStmt Global)
+    → stmt ≡ ts.While keyword opening test closing body → IsTypedExpr env (view test) (pure_expr e) → IsTypedStmt env (stmt_view body.value) (pure_stmt a.value) → IsTypedStmt env (stmt_view stmt) (pure_stmt (s.While e a))
 while_rule env stmt keyword opening test closing body e a is h k = rw (is, view-while, pure-while) (x.while h k)
 
 pub do_body : (env : Env) (stmt : source.Stmt) (keyword : Span) (body : Box source.Stmt Global) (while_keyword opening : Span) (test : source_expr.Expr) (closing end : Span)
@@ -234,9 +234,9 @@ do_body env stmt keyword body while_keyword opening test closing end is f =
     let g : IsFaultless env (t.do_while keyword (stmt_view body.value) while_keyword opening (view test) closing end) = rw (is, view-do_while) at f in
     (g.0, true, none_before _ _ g.2)
 
-pub do_rule : (env : Env) (stmt : source.Stmt) (keyword : Span) (body : Box source.Stmt Global) (while_keyword opening : Span) (test : source_expr.Expr) (closing end : Span) (e : Expr) (a : Box Stmt Global)
-    → stmt ≡ ts.Do keyword body while_keyword opening test closing end → IsStmt env (stmt_view body.value) (pure_stmt a.value) → IsExpr env (view test) (pure_expr e)
-    → IsStmt env (stmt_view stmt) (pure_stmt (s.Do a e))
+pub do_rule : (env : Env) (stmt : source.Stmt) (keyword : Span) (body : Box source.Stmt Global) (while_keyword opening : Span) (test : source_expr.Expr) (closing end : Span) (e : TypedExpr) (a : Box TypedStmt Global)
+    → stmt ≡ ts.Do keyword body while_keyword opening test closing end → IsTypedStmt env (stmt_view body.value) (pure_stmt a.value) → IsTypedExpr env (view test) (pure_expr e)
+    → IsTypedStmt env (stmt_view stmt) (pure_stmt (s.Do a e))
 do_rule env stmt keyword body while_keyword opening test closing end e a is h k = rw (is, view-do_while, pure-do_while) (x.do_while h k)
 
 -- a `for` and its parts
@@ -261,7 +261,7 @@ module _ (env : Env) (stmt : source.Stmt) (keyword opening : Span) (start : sour
       let g : IsFaultless env whole = rw (is, view-for) at f in
       (g.0, true, none_behind ((start_faults (opened env) (start_view start) ++ test_faults inside (option_map view test)) ++ step_faults inside (option_map simple_view step)) _ g.2)
 
-  pub for_rule : (typed : Stmt) → IsStmt env whole (pure_stmt typed) → IsStmt env (stmt_view stmt) (pure_stmt typed)
+  pub for_rule : (typed : TypedStmt) → IsTypedStmt env whole (pure_stmt typed) → IsTypedStmt env (stmt_view stmt) (pure_stmt typed)
   for_rule typed h = rw (is, view-for) h
 
 -- what follows from what is said of an Ok
@@ -278,11 +278,11 @@ pub on_ok : {A B : Type 0} {found : Result A B} {x : A} (P : Type 0) → found �
 on_ok {A} {B} P e h = let Q : Result A B → Type 0 = λ one. OnOk one P in subst Q e h
 
 pub for_typed : (env first now : Env) (start : source_start.ForStart) (test : Option source_expr.Expr) (step : Option source_simple.Simple) (body : source.Stmt)
-    (typed_start : ForStart) (typed_test : Option Expr) (typed_step : Option Simple) (a : Box Stmt Global)
+    (typed_start : TypedForStart) (typed_test : Option TypedExpr) (typed_step : Option TypedSimple) (a : Box TypedStmt Global)
     → first ≡ opened env → now ≡ after_start first (start_view start)
-    → IsStart first (start_view start) (pure_start typed_start) → IsTest now (option_map view test) (option_map pure_expr typed_test)
-    → IsStep now (option_map simple_view step) (option_map pure_simple typed_step) → IsStmt now (stmt_view body) (pure_stmt a.value) → (keyword opening start_end test_end closing : Span)
-    → IsStmt env (t.for keyword opening (start_view start) start_end (option_map view test) test_end (option_map simple_view step) closing (stmt_view body)) (pure_stmt (s.For typed_start typed_test typed_step a))
+    → IsTypedForStart first (start_view start) (pure_start typed_start) → IsTest now (option_map view test) (option_map pure_expr typed_test)
+    → IsTypedStep now (option_map simple_view step) (option_map pure_simple typed_step) → IsTypedStmt now (stmt_view body) (pure_stmt a.value) → (keyword opening start_end test_end closing : Span)
+    → IsTypedStmt env (t.for keyword opening (start_view start) start_end (option_map view test) test_end (option_map simple_view step) closing (stmt_view body)) (pure_stmt (s.For typed_start typed_test typed_step a))
 for_typed env first now start test step body typed_start typed_test typed_step a o n b d k h keyword opening start_end test_end closing =
     let m : now ≡ after_start (opened env) (start_view start) = n ∙ ap (λ one. after_start one (start_view start)) o in
     rw pure-for (x.for (rw o at b) (rw m at d) (rw m at k) (rw m at h))
@@ -294,16 +294,16 @@ pub declare_faultless : (env : Env) (part : source_part.Part) (declaration : sou
 declare_faultless env part declaration end is f =
     let g : IsFaultlessPart env (t.declare (declaration_view declaration) end) = rw (is, view-declare) at f in g.2
 
-pub declare_rule : (env : Env) (part : source_part.Part) (declaration : source_declaration.Declaration) (end : Span) (typed : Declaration) → part ≡ tp.Declaration declaration end
-    → IsDeclaration env (declaration_view declaration) (pure_declaration typed) → IsPart env (part_view part) (pure_part (q.Declaration typed))
+pub declare_rule : (env : Env) (part : source_part.Part) (declaration : source_declaration.Declaration) (end : Span) (typed : TypedDeclaration) → part ≡ tp.Declaration declaration end
+    → IsTypedDeclaration env (declaration_view declaration) (pure_declaration typed) → IsTypedPart env (part_view part) (pure_part (q.Declaration typed))
 declare_rule env part declaration end typed is h = rw (is, view-declare, pure-declare) (x.declare h)
 
 pub stmt_faultless : (env : Env) (part : source_part.Part) (inner : source.Stmt) → part ≡ tp.Stmt inner → IsFaultlessPart env (part_view part) → IsFaultless env (stmt_view inner)
 stmt_faultless env part inner is f =
     let g : IsFaultlessPart env (t.stmt (stmt_view inner)) = rw (is, view-stmt) at f in (g.0, g.1, g.2)
 
-pub stmt_rule : (env : Env) (part : source_part.Part) (inner : source.Stmt) (typed : Stmt) → part ≡ tp.Stmt inner
-    → IsStmt env (stmt_view inner) (pure_stmt typed) → IsPart env (part_view part) (pure_part (q.Stmt typed))
+pub stmt_rule : (env : Env) (part : source_part.Part) (inner : source.Stmt) (typed : TypedStmt) → part ≡ tp.Stmt inner
+    → IsTypedStmt env (stmt_view inner) (pure_stmt typed) → IsTypedPart env (part_view part) (pure_part (q.Stmt typed))
 stmt_rule env part inner typed is h = rw (is, view-stmt, pure-stmt) (x.stmt h)
 
 pub part_next : (env : Env) (parts : List source_part.Part) (i : ℕ) (part : source_part.Part) → i < length parts → part ≡ get_or parts i part
@@ -322,18 +322,18 @@ pub parts_after : (env now last : Env) (parts : List source_part.Part) (i : ℕ)
     → now ≡ after_part env (part_view part) → after_parts env (parts_view (drop i parts)) ≡ last → after_parts now (parts_view (drop (i + 1) parts)) ≡ last
 parts_after env now last parts i part less is n e = rw n (sym (after_parts_next env parts i part less is) ∙ e)
 
-pub parts_more : (env start now : Env) (parts : List source_part.Part) (i : ℕ) (part : source_part.Part) (before after : List Part) (typed : Part)
-    → after ≡ before ++ typed ∷ [] → i < length parts → part ≡ get_or parts i part → IsPart env (part_view part) (pure_part typed) → now ≡ after_part env (part_view part)
-    → ((more : List Part) → AreParts env (parts_view (drop i parts)) (pure_parts more) → AreParts start (parts_view parts) (pure_parts (before ++ more)))
-    → (more : List Part) → AreParts now (parts_view (drop (i + 1) parts)) (pure_parts more) → AreParts start (parts_view parts) (pure_parts (after ++ more))
+pub parts_more : (env start now : Env) (parts : List source_part.Part) (i : ℕ) (part : source_part.Part) (before after : List TypedPart) (typed : TypedPart)
+    → after ≡ before ++ typed ∷ [] → i < length parts → part ≡ get_or parts i part → IsTypedPart env (part_view part) (pure_part typed) → now ≡ after_part env (part_view part)
+    → ((more : List TypedPart) → AreTypedParts env (parts_view (drop i parts)) (pure_parts more) → AreTypedParts start (parts_view parts) (pure_parts (before ++ more)))
+    → (more : List TypedPart) → AreTypedParts now (parts_view (drop (i + 1) parts)) (pure_parts more) → AreTypedParts start (parts_view parts) (pure_parts (after ++ more))
 parts_more env start now parts i part before after typed e less is h n =
-    let P : Env → List source_part.Part → List Part → Type 0 = λ here left all. AreParts here (parts_view left) (pure_parts all) in
+    let P : Env → List source_part.Part → List TypedPart → Type 0 = λ here left all. AreTypedParts here (parts_view left) (pure_parts all) in
     grown (P env (drop i parts)) (P now (drop (i + 1) parts)) (P start parts) before after typed e
     (λ more rest. subst (λ left. P env left (typed ∷ more)) (sym (drop_at parts i part less is))
     (x.part h (subst (λ here. P here (drop (i + 1) parts) more) n rest)))
 
-pub parts_end : (env start : Env) (parts : List source_part.Part) (i : ℕ) (typed : List Part) → length parts ≤ i
-    → ((more : List Part) → AreParts env (parts_view (drop i parts)) (pure_parts more) → AreParts start (parts_view parts) (pure_parts (typed ++ more))) → AreParts start (parts_view parts) (pure_parts typed)
+pub parts_end : (env start : Env) (parts : List source_part.Part) (i : ℕ) (typed : List TypedPart) → length parts ≤ i
+    → ((more : List TypedPart) → AreTypedParts env (parts_view (drop i parts)) (pure_parts more) → AreTypedParts start (parts_view parts) (pure_parts (typed ++ more))) → AreTypedParts start (parts_view parts) (pure_parts typed)
 parts_end env start parts i typed past so_far =
-    let P : Env → List source_part.Part → List Part → Type 0 = λ here left all. AreParts here (parts_view left) (pure_parts all) in
+    let P : Env → List source_part.Part → List TypedPart → Type 0 = λ here left all. AreTypedParts here (parts_view left) (pure_parts all) in
     ended (P env (drop i parts)) (P start parts) typed (subst (λ left. P env left []) (sym (drop_past parts i past)) x.no_part) so_far

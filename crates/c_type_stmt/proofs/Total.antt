@@ -3,12 +3,12 @@ use Rattle.std.proofs.Common.{◌≡◌, inl, inr, ◌++◌, Bool, true, List, [
 use Rattle.std.specs.Option.{is_some}
 use Rattle.c_grammar.specs.declared.terminal.Span.{Span}
 use Rattle.c_grammar.specs.Tree as t
-use Rattle.c_names.specs.FormatReading.{pieces_of}
+use Rattle.c_names.specs.FormatReading.{format_pieces}
 use Rattle.c_names.specs.declared.kind.VariableKind.{VariableKind}
 use Rattle.c_names.specs.declared.kind.VariableKind.TheVariants.{Int}
 use Rattle.c_names.specs.declared.predefined.Predefined.TheVariants as p
-use Rattle.c_check.specs.Calls.{arguments_of, call_faults, inside, numbers_faults, value_faults}
-use Rattle.c_check.specs.Statements.{after_item, after_items, after_part, after_start, declaration_faults, initial_faults, is_assign, item_faults, items_faults, part_faults, return_faults, simple_faults, start_faults, step_faults, stmt_faults, test_faults}
+use Rattle.c_check.specs.Calls.{arguments_of, call_faults, without_quotes, numbers_faults, value_faults}
+use Rattle.c_check.specs.Statements.{after_item, after_declarators, after_part, after_start, declaration_faults, initial_faults, is_plain_assign, item_faults, items_faults, part_faults, return_faults, simple_faults, start_faults, step_faults, stmt_faults, test_faults}
 use Rattle.c_check_expr.specs.Expressions.{int_faults}
 use Rattle.c_check_expr.specs.Kinds.{kind_of_symbol, place_first_token}
 use Rattle.c_check_expr.specs.Scopes.{Env, meaning, opened, token_bytes}
@@ -22,9 +22,9 @@ use Rattle.c_type_expr.proofs.Faultless.{cases, mpi_fits, none_before, none_behi
 use Rattle.c_type_expr.proofs.Total.{call_total, expr_total, place_total, right_total, value_total}
 use Rattle.c_type_mpi.proofs.Total.{mpi_total}
 use Rattle.c_program.specs.Tree as pure
-use Rattle.c_program.specs.Tree.{Expr, ForStart, InitDeclarator, Initializer, Part, Parts, Right, Simple, Stmt}
+use Rattle.c_program.specs.Tree.{TypedExpr, TypedForStart, TypedInitDeclarator, TypedInitializer, TypedPart, TypedParts, TypedRight, TypedSimple, TypedStmt}
 use Rattle.c_type_stmt.specs.Statements as x
-use Rattle.c_type_stmt.specs.Statements.{AreExprs, AreItems, AreParts, AreValues, IsDeclaration, IsInitializer, IsItem, IsPart, IsReturn, IsSimple, IsStart, IsStep, IsStmt, IsTest, length_in, one, update_of}
+use Rattle.c_type_stmt.specs.Statements.{AreTypedExprs, AreTypedItems, AreTypedParts, AreValues, IsTypedDeclaration, IsTypedInitializer, IsTypedItem, IsTypedPart, IsReturn, IsTypedSimple, IsTypedForStart, IsTypedStep, IsTypedStmt, IsTest, length_in, one, update_of}
 use Rattle.c_type_stmt.proofs.SimpleRules.{assign_right, print_rule, print_tells}
 use Rattle.c_type_stmt.proofs.StatementRules.{AreFaultless, IsFaultless, IsFaultlessPart, begun_right, item_initial, return_right}
 
@@ -39,7 +39,7 @@ heads_opened env heads = record { heads = heads.heads; functions = heads.functio
 heads_item : (env : Env) (kind : VariableKind) (item : t.InitDeclarator) → HasHeads env → HasHeads (after_item env kind item)
 heads_item env kind item heads = record { heads = heads.heads; functions = heads.functions }
 
-heads_items : (env : Env) (kind : VariableKind) (items : List t.InitDeclarator) → HasHeads env → HasHeads (after_items env kind items)
+heads_items : (env : Env) (kind : VariableKind) (items : List t.InitDeclarator) → HasHeads env → HasHeads (after_declarators env kind items)
 heads_items env kind [] heads = heads
 heads_items env kind (item ∷ items) heads = heads_items (after_item env kind item) kind items (heads_item env kind item heads)
 
@@ -59,25 +59,25 @@ some_of None h = absurd (let z : ⊥ = cc in z)
 some_of (Some a) h = (a, refl)
 
 numbers_total : (env : Env) (given : List t.Argument) → numbers_faults env given ≡ []
-    → (typed : List Expr) × AreValues env given typed
+    → (typed : List TypedExpr) × AreValues env given typed
 numbers_total env [] h = ([], x.no_value)
 numbers_total env (first ∷ more) h =
     let e = value_total env first (value_shape env (Of Int) first (none_before _ _ h)) in
     let others = numbers_total env more (none_behind (value_faults env (Of Int) first) _ h) in
     (e.0 ∷ others.0, x.value e.1 others.1)
 
-print_total : (env : Env) (call : t.Call) → meaning env call.name ≡ m.Known p.Printf → call_faults env call ≡ []
-    → (typed : Simple) × IsSimple env (t.invoke call) typed
+print_total : (env : Env) (call : t.WrittenCall) → meaning env call.name ≡ m.Known p.Printf → call_faults env call ≡ []
+    → (typed : TypedSimple) × IsTypedSimple env (t.invoke call) typed
 print_total env call e h =
     let tells = print_tells env call e h in
-    let found = some_of (pieces_of (inside (token_bytes env.text tells.at))) tells.format in
+    let found = some_of (format_pieces (without_quotes (token_bytes env.text tells.at))) tells.format in
     let values = numbers_total env (drop 1 (arguments_of call)) tells.numbers in
     (pure.print found.0 values.0, print_rule env call tells.at found.0 values.0 e tells.first found.1 values.1)
 
 -- ---- calls and assignments
 
-invoke_by : (env : Env) (call : t.Call) (meant : Meaning) → meaning env call.name ≡ meant → HasHeads env → call_faults env call ≡ []
-    → (typed : Simple) × IsSimple env (t.invoke call) typed
+invoke_by : (env : Env) (call : t.WrittenCall) (meant : Meaning) → meaning env call.name ≡ meant → HasHeads env → call_faults env call ≡ []
+    → (typed : TypedSimple) × IsTypedSimple env (t.invoke call) typed
 invoke_by env call (m.Declared (d.Function number)) e heads h =
     let one = call_total env heads.heads heads.functions call number e h in (pure.call one.0, x.call one.1)
 invoke_by env call (m.Known (p.Mpi function)) e heads h =
@@ -102,12 +102,12 @@ invoke_by env call (m.Declared d.ArrayParameter) e heads h = absurd (let g = rw 
 invoke_by env call (m.Declared d.ArgumentCount) e heads h = absurd (let g = rw e at h in let z : ⊥ = cc g in z)
 invoke_by env call (m.Declared d.ArgumentTexts) e heads h = absurd (let g = rw e at h in let z : ⊥ = cc g in z)
 
-simple_total : (env : Env) (simple : t.Simple) → HasHeads env → simple_faults env simple ≡ [] → (typed : Simple) × IsSimple env simple typed
+simple_total : (env : Env) (simple : t.Simple) → HasHeads env → simple_faults env simple ≡ [] → (typed : TypedSimple) × IsTypedSimple env simple typed
 simple_total env (t.assign place operator span right) heads h =
     let goal = place_total env place in
     let wanted = assign_right env place operator span right h in
     let value = right_total env heads.heads heads.functions right wanted.0 wanted.1 in
-    elim (cases (is_assign operator)) [
+    elim (cases (is_plain_assign operator)) [
       | inl e ↦ (pure.set goal.0 value.0, x.set e goal.1 value.1)
       | inr e ↦ (pure.update goal.0 (update_of operator) value.0, x.update e goal.1 value.1)
     ]
@@ -117,12 +117,12 @@ simple_total env (t.invoke call) heads h = invoke_by env call (meaning env call.
 
 -- ---- declarations
 
-exprs_total : (env : Env) (es : List t.Expr) → (typed : List Expr) × AreExprs env es typed
+exprs_total : (env : Env) (es : List t.Expr) → (typed : List TypedExpr) × AreTypedExprs env es typed
 exprs_total env [] = ([], x.no_expr)
 exprs_total env (e ∷ es) = let first = expr_total env e in let others = exprs_total env es in (first.0 ∷ others.0, x.expr first.1 others.1)
 
 initial_total : (env : Env) (initial : Option t.Initializer) (name : Span) (entity : Entity) → HasHeads env → initial_faults env name entity initial ≡ []
-    → (typed : Initializer) × IsInitializer env initial typed
+    → (typed : TypedInitializer) × IsTypedInitializer env initial typed
 initial_total env None name entity heads h = (pure.no_initial, x.nothing)
 initial_total env (Some (t.begun mark right)) name entity heads h =
     let wanted = begun_right env name mark entity right h in
@@ -132,7 +132,7 @@ initial_total env (Some (t.braced mark opening values closing)) name entity head
     let typed = exprs_total env (listed values) in (pure.values typed.0, x.braced typed.1)
 
 item_total : (env : Env) (kind : VariableKind) (item : t.InitDeclarator) → HasHeads env → item_faults env kind item ≡ []
-    → (typed : InitDeclarator) × IsItem env kind item typed
+    → (typed : TypedInitDeclarator) × IsTypedItem env kind item typed
 item_total env kind item heads h =
     let faultless = item_initial env (after_item env kind item) kind item refl h in
     let initial = initial_total (after_item env kind item) item.initial faultless.0 faultless.1 (heads_item env kind item heads) faultless.2 in (
@@ -141,7 +141,7 @@ item_total env kind item heads h =
     )
 
 items_total : (env : Env) (kind : VariableKind) (items : List t.InitDeclarator) → HasHeads env → items_faults env kind items ≡ []
-    → (typed : List InitDeclarator) × AreItems kind env items typed
+    → (typed : List TypedInitDeclarator) × AreTypedItems kind env items typed
 items_total env kind [] heads h = ([], x.no_item)
 items_total env kind (item ∷ items) heads h =
     let first = item_total env kind item heads (none_before _ _ h) in
@@ -149,27 +149,27 @@ items_total env kind (item ∷ items) heads h =
     (first.0 ∷ others.0, x.item first.1 others.1)
 
 declaration_total : (env : Env) (declaration : t.Declaration) → HasHeads env → declaration_faults env declaration ≡ []
-    → (typed : List InitDeclarator) × IsDeclaration env declaration typed
+    → (typed : List TypedInitDeclarator) × IsTypedDeclaration env declaration typed
 declaration_total env declaration heads h = items_total env (kind_of_symbol declaration.kind) (listed declaration.items) heads h
 
 -- ---- parts of statements
 
-start_total : (env : Env) (start : t.ForStart) → HasHeads env → start_faults env start ≡ [] → (typed : ForStart) × IsStart env start typed
+start_total : (env : Env) (start : t.ForStart) → HasHeads env → start_faults env start ≡ [] → (typed : TypedForStart) × IsTypedForStart env start typed
 start_total env t.no_start heads h = (pure.no_start, x.no_start)
 start_total env (t.declared_start declaration) heads h =
     let typed = declaration_total env declaration heads h in (pure.declared_start typed.0, x.declared_start typed.1)
 start_total env (t.simple_start simple) heads h = let typed = simple_total env simple heads h in (pure.simple_start typed.0, x.simple_start typed.1)
 
-test_total : (env : Env) (test : Option t.Expr) → (typed : Option Expr) × IsTest env test typed
+test_total : (env : Env) (test : Option t.Expr) → (typed : Option TypedExpr) × IsTest env test typed
 test_total env None = (None, x.no_test)
 test_total env (Some e) = let typed = expr_total env e in (Some typed.0, x.test typed.1)
 
-step_total : (env : Env) (step : Option t.Simple) → HasHeads env → step_faults env step ≡ [] → (typed : Option Simple) × IsStep env step typed
+step_total : (env : Env) (step : Option t.Simple) → HasHeads env → step_faults env step ≡ [] → (typed : Option TypedSimple) × IsTypedStep env step typed
 step_total env None heads h = (None, x.no_step)
 step_total env (Some simple) heads h = let typed = simple_total env simple heads h in (Some typed.0, x.step typed.1)
 
 return_total : (env : Env) (gives : Bool) (value : Option t.Right) → HasHeads env → return_faults env gives value ≡ []
-    → (typed : Option Right) × IsReturn env value typed
+    → (typed : Option TypedRight) × IsReturn env value typed
 return_total env gives None heads h = (None, x.bare)
 return_total env gives (Some right) heads h =
     let wanted = return_right env gives right h in
@@ -178,7 +178,7 @@ return_total env gives (Some right) heads h =
 -- ---- statements
 
 mutual
-  pub stmt_total : (env : Env) (stmt : t.Stmt) → HasHeads env → IsFaultless env stmt → (typed : Stmt) × IsStmt env stmt typed
+  pub stmt_total : (env : Env) (stmt : t.Stmt) → HasHeads env → IsFaultless env stmt → (typed : TypedStmt) × IsTypedStmt env stmt typed
   stmt_total env (t.block opening parts closing) heads f =
       let all = parts_total (opened env) parts (heads_opened env heads) f in (pure.block all.0, x.block all.1)
   stmt_total env (t.empty end) heads f = (pure.empty, x.empty)
@@ -214,11 +214,11 @@ mutual
       (f.0, true, none_behind ((start_faults (opened env) start ++ test_faults inner test) ++ step_faults inner step) _ f.2) in
       (pure.for started.0 tested.0 stepped.0 turn.0, x.for started.1 tested.1 stepped.1 turn.1)
 
-  part_total : (env : Env) (part : t.Part) → HasHeads env → IsFaultlessPart env part → (typed : Part) × IsPart env part typed
+  part_total : (env : Env) (part : t.Part) → HasHeads env → IsFaultlessPart env part → (typed : TypedPart) × IsTypedPart env part typed
   part_total env (t.declare declaration end) heads f = let typed = declaration_total env declaration heads f.2 in (pure.declare typed.0, x.declare typed.1)
   part_total env (t.stmt inner) heads f = let typed = stmt_total env inner heads f in (pure.stmt typed.0, x.stmt typed.1)
 
-  pub parts_total : (env : Env) (parts : t.Parts) → HasHeads env → AreFaultless env parts → (typed : Parts) × AreParts env parts typed
+  pub parts_total : (env : Env) (parts : t.Parts) → HasHeads env → AreFaultless env parts → (typed : TypedParts) × AreTypedParts env parts typed
   parts_total env t.no_part heads f = (pure.no_part, x.no_part)
   parts_total env (t.part first more) heads f =
       let one = part_total env first heads (f.0, f.1, none_before _ _ f.2) in

@@ -11,11 +11,11 @@ ghost use Rattle.c_check_expr.specs.Scopes.{opened};
 ghost use Rattle.c_check_expr.specs.Signatures.{listed};
 ghost use Rattle.c_check.specs.Statements.{after_declaration, after_item, after_part, after_parts, after_start, declaration_faults, initial_faults, item_faults, part_faults, parts_faults, return_faults, simple_faults, start_faults, step_faults, stmt_faults, test_faults};
 ghost use Rattle.c_check_expr.specs.declared.meaning.Entity.{Entity};
-ghost use Rattle.c_program.specs.declared.statement.Stmt as typed;
-ghost use Rattle.c_program.specs.declared.statement.Stmt.TheVariants as v;
+ghost use Rattle.c_program.specs.declared.statement.TypedStmt as typed;
+ghost use Rattle.c_program.specs.declared.statement.TypedStmt.TheVariants as v;
 ghost use Rattle.c_program.specs.View.{pure_declaration, pure_expr, pure_initial, pure_item, pure_part, pure_parts, pure_right, pure_simple, pure_start, pure_stmt};
-ghost use Rattle.c_type_expr.specs.Exprs.{IsExpr};
-ghost use Rattle.c_type_stmt.specs.Statements.{AreExprs, AreParts, IsDeclaration, IsInitializer, IsItem, IsPart, IsReturn, IsSimple, IsStart, IsStep, IsStmt, IsTest, length_in, update_of};
+ghost use Rattle.c_type_expr.specs.Exprs.{IsTypedExpr};
+ghost use Rattle.c_type_stmt.specs.Statements.{AreTypedExprs, AreTypedParts, IsTypedDeclaration, IsTypedInitializer, IsTypedItem, IsTypedPart, IsReturn, IsTypedSimple, IsTypedForStart, IsTypedStep, IsTypedStmt, IsTest, length_in, update_of};
 
 use crate::print_of::print_of;
 use c_check::statement::{declared_entity, is_assign};
@@ -28,9 +28,10 @@ use c_grammar::{statement, tree};
 use c_names::kind::VariableKind;
 use c_names::operator::Operator;
 use c_names::predefined::Predefined;
-use c_program::expr::{Expr, Right};
+use c_program::expr::{TypedExpr, TypedRight};
 use c_program::statement::{
-    Declaration, ForStart, InitDeclarator, Initializer, Part, Simple, Stmt,
+    TypedDeclaration, TypedForStart, TypedInitDeclarator, TypedInitializer, TypedPart, TypedSimple,
+    TypedStmt,
 };
 use c_type_expr::call_of::{call_of, right_of};
 use c_type_expr::expr_of::{expr_of, place_of};
@@ -63,14 +64,14 @@ fn step_of(
     scope: &Scope,
     place: &tree::Place,
     operator: Symbol,
-) -> Result<Simple, AllocError>
-    ensures after { IfOk result (λ typed. (at : Span) → IsSimple scope.now (t.after (place_view place.now) operator at) (pure_simple typed)) }
-    ensures before { IfOk result (λ typed. (at : Span) → IsSimple scope.now (t.before operator at (place_view place.now)) (pure_simple typed)) }
+) -> Result<TypedSimple, AllocError>
+    ensures after { IfOk result (λ typed. (at : Span) → IsTypedSimple scope.now (t.after (place_view place.now) operator at) (pure_simple typed)) }
+    ensures before { IfOk result (λ typed. (at : Span) → IsTypedSimple scope.now (t.before operator at (place_view place.now)) (pure_simple typed)) }
 {
-    Ok(Simple::Update {
+    Ok(TypedSimple::Update {
         place: place_of(alloc, scope, place)?,
         operator: update_of(operator),
-        right: Right::Value(Expr::Number(1)),
+        right: TypedRight::Value(TypedExpr::Number(1)),
     })
 }
 
@@ -78,29 +79,33 @@ fn step_of(
 fn call_statement(
     alloc: Global,
     scope: &Scope,
-    call: &statement::Call,
-) -> Result<Simple, AllocError>
+    call: &statement::WrittenCall,
+) -> Result<TypedSimple, AllocError>
     requires { call_faults scope.now (call_view call.now) ≡ [] }
-    ensures { IfOk result (λ typed. IsSimple scope.now (t.invoke (call_view call.now)) (pure_simple typed)) }
+    ensures { IfOk result (λ typed. IsTypedSimple scope.now (t.invoke (call_view call.now)) (pure_simple typed)) }
 {
     match scope.meaning(call.name) {
         Meaning::Declared(Entity::Function(number)) => {
-            Ok(Simple::Call(call_of(alloc, scope, number, call)?))
+            Ok(TypedSimple::Call(call_of(alloc, scope, number, call)?))
         }
         Meaning::Known(Predefined::Mpi(function)) => {
             let typed = mpi_call_of(alloc, scope, function, call);
-            Ok(Simple::Mpi(held(alloc, typed)?))
+            Ok(TypedSimple::Mpi(held(alloc, typed)?))
         }
         Meaning::Known(Predefined::Printf) => print_of(alloc, scope, call),
-        Meaning::Known(Predefined::Fflush) => Ok(Simple::Flush),
+        Meaning::Known(Predefined::Fflush) => Ok(TypedSimple::Flush),
         _ => unreachable!(),
     }
 }
 
 /// The typed assignment or call of one without faults.
-fn simple_of(alloc: Global, scope: &Scope, simple: &statement::Simple) -> Result<Simple, AllocError>
+fn simple_of(
+    alloc: Global,
+    scope: &Scope,
+    simple: &statement::Simple,
+) -> Result<TypedSimple, AllocError>
     requires { simple_faults scope.now (simple_view simple.now) ≡ [] }
-    ensures { IfOk result (λ typed. IsSimple scope.now (simple_view simple.now) (pure_simple typed)) }
+    ensures { IfOk result (λ typed. IsTypedSimple scope.now (simple_view simple.now) (pure_simple typed)) }
 {
     match simple {
         statement::Simple::Assign {
@@ -112,9 +117,9 @@ fn simple_of(alloc: Global, scope: &Scope, simple: &statement::Simple) -> Result
             let place = place_of(alloc, scope, place)?;
             let right = right_of(alloc, scope, right)?;
             if is_assign(*operator) {
-                Ok(Simple::Set { place, right })
+                Ok(TypedSimple::Set { place, right })
             } else {
-                Ok(Simple::Update {
+                Ok(TypedSimple::Update {
                     place,
                     operator: update_of(*operator),
                     right,
@@ -139,8 +144,8 @@ fn values_of(
     alloc: Global,
     scope: &Scope,
     values: &statement::CommaList<tree::Expr>,
-) -> Result<Vec<Expr>, AllocError>
-    ensures { IfOk result (λ typed. AreExprs scope.now (listed (comma_list_view view values.now)) (map pure_expr typed.items)) }
+) -> Result<Vec<TypedExpr>, AllocError>
+    ensures { IfOk result (λ typed. AreTypedExprs scope.now (listed (comma_list_view view values.now)) (map pure_expr typed.items)) }
 {
     let mut typed = Vec::new(alloc);
     typed.push(expr_of(alloc, scope, &values.first)?)?;
@@ -154,16 +159,16 @@ fn begun_of(
     alloc: Global,
     scope: &Scope,
     initial: &statement::Initializer,
-) -> Result<Initializer, AllocError>
+) -> Result<TypedInitializer, AllocError>
     requires { (name : Span) × (entity : Entity) × (initial_faults scope.now name entity (Some (initial_view initial.now)) ≡ []) }
-    ensures { IfOk result (λ typed. IsInitializer scope.now (Some (initial_view initial.now)) (pure_initial typed)) }
+    ensures { IfOk result (λ typed. IsTypedInitializer scope.now (Some (initial_view initial.now)) (pure_initial typed)) }
 {
     match initial {
         statement::Initializer::Right { right, .. } => {
-            Ok(Initializer::Right(right_of(alloc, scope, right)?))
+            Ok(TypedInitializer::Right(right_of(alloc, scope, right)?))
         }
         statement::Initializer::Braced { values, .. } => {
-            Ok(Initializer::Values(values_of(alloc, scope, values)?))
+            Ok(TypedInitializer::Values(values_of(alloc, scope, values)?))
         }
     }
 }
@@ -172,12 +177,12 @@ fn initial_of(
     alloc: Global,
     scope: &Scope,
     initial: &Option<statement::Initializer>,
-) -> Result<Initializer, AllocError>
+) -> Result<TypedInitializer, AllocError>
     requires { (name : Span) × (entity : Entity) × (initial_faults scope.now name entity (option_map initial_view initial.now) ≡ []) }
-    ensures { IfOk result (λ typed. IsInitializer scope.now (option_map initial_view initial.now) (pure_initial typed)) }
+    ensures { IfOk result (λ typed. IsTypedInitializer scope.now (option_map initial_view initial.now) (pure_initial typed)) }
 {
     match initial {
-        None => Ok(Initializer::Nothing),
+        None => Ok(TypedInitializer::Nothing),
         Some(initial) => {
             let typed = begun_of(alloc, scope, initial)?;
             Ok(typed)
@@ -201,9 +206,9 @@ fn item_of(
     scope: &mut Scope,
     kind: VariableKind,
     item: &statement::InitDeclarator,
-) -> Result<InitDeclarator, AllocError>
+) -> Result<TypedInitDeclarator, AllocError>
     requires { item_faults scope.old kind (item_view item.now) ≡ [] }
-    ensures typed { IfOk result (λ typed. IsItem scope.old kind (item_view item.now) (pure_item typed)) }
+    ensures typed { IfOk result (λ typed. IsTypedItem scope.old kind (item_view item.now) (pure_item typed)) }
     ensures scope { OnOk result (scope.new ≡ after_item scope.old kind (item_view item.now)) }
 {
     let span = place_first_token(&item.place);
@@ -212,7 +217,7 @@ fn item_of(
     let entity = declared_entity(scope, kind, &item.place);
     scope.declare(span, entity)?;
     let initial = initial_of(alloc, scope, &item.initial)?;
-    Ok(InitDeclarator {
+    Ok(TypedInitDeclarator {
         name,
         kind,
         length,
@@ -224,9 +229,9 @@ fn declaration_of(
     alloc: Global,
     scope: &mut Scope,
     declaration: &statement::Declaration,
-) -> Result<Declaration, AllocError>
+) -> Result<TypedDeclaration, AllocError>
     requires { declaration_faults scope.old (declaration_view declaration.now) ≡ [] }
-    ensures typed { IfOk result (λ typed. IsDeclaration scope.old (declaration_view declaration.now) (pure_declaration typed)) }
+    ensures typed { IfOk result (λ typed. IsTypedDeclaration scope.old (declaration_view declaration.now) (pure_declaration typed)) }
     ensures scope { OnOk result (scope.new ≡ after_declaration scope.old (declaration_view declaration.now)) }
 {
     let kind = kind_of_symbol(declaration.kind);
@@ -235,27 +240,25 @@ fn declaration_of(
     for behind in &declaration.items.more {
         items.push(item_of(alloc, scope, kind, &behind.item)?)?;
     }
-    Ok(Declaration { items })
+    Ok(TypedDeclaration { items })
 }
 
 fn start_of(
     alloc: Global,
     scope: &mut Scope,
     start: &statement::ForStart,
-) -> Result<ForStart, AllocError>
+) -> Result<TypedForStart, AllocError>
     requires { start_faults scope.old (start_view start.now) ≡ [] }
-    ensures typed { IfOk result (λ typed. IsStart scope.old (start_view start.now) (pure_start typed)) }
+    ensures typed { IfOk result (λ typed. IsTypedForStart scope.old (start_view start.now) (pure_start typed)) }
     ensures scope { OnOk result (scope.new ≡ after_start scope.old (start_view start.now)) }
 {
     match start {
-        statement::ForStart::Nothing => Ok(ForStart::Nothing),
-        statement::ForStart::Declaration(declaration) => Ok(ForStart::Declaration(declaration_of(
-            alloc,
-            scope,
-            declaration,
-        )?)),
+        statement::ForStart::Nothing => Ok(TypedForStart::Nothing),
+        statement::ForStart::Declaration(declaration) => Ok(TypedForStart::Declaration(
+            declaration_of(alloc, scope, declaration)?,
+        )),
         statement::ForStart::Simple(simple) => {
-            Ok(ForStart::Simple(simple_of(alloc, scope, simple)?))
+            Ok(TypedForStart::Simple(simple_of(alloc, scope, simple)?))
         }
     }
 }
@@ -265,7 +268,7 @@ fn returned_of(
     alloc: Global,
     scope: &Scope,
     value: &Option<statement::Right>,
-) -> Result<Option<Right>, AllocError>
+) -> Result<Option<TypedRight>, AllocError>
     requires { (gives : Bool) × (return_faults scope.now gives (option_map right_view value.now) ≡ []) }
     ensures { IfOk result (λ typed. IsReturn scope.now (option_map right_view value.now) (option_map pure_right typed)) }
 {
@@ -279,7 +282,7 @@ fn test_of(
     alloc: Global,
     scope: &Scope,
     test: &Option<tree::Expr>,
-) -> Result<Option<Expr>, AllocError>
+) -> Result<Option<TypedExpr>, AllocError>
     ensures { IfOk result (λ typed. IsTest scope.now (option_map view test.now) (option_map pure_expr typed)) }
 {
     match test {
@@ -292,9 +295,9 @@ fn turn_of(
     alloc: Global,
     scope: &Scope,
     step: &Option<statement::Simple>,
-) -> Result<Option<Simple>, AllocError>
+) -> Result<Option<TypedSimple>, AllocError>
     requires { step_faults scope.now (option_map simple_view step.now) ≡ [] }
-    ensures { IfOk result (λ typed. IsStep scope.now (option_map simple_view step.now) (option_map pure_simple typed)) }
+    ensures { IfOk result (λ typed. IsTypedStep scope.now (option_map simple_view step.now) (option_map pure_simple typed)) }
 {
     match step {
         Some(simple) => Ok(Some(simple_of(alloc, scope, simple)?)),
@@ -302,7 +305,7 @@ fn turn_of(
     }
 }
 
-fn push(typed: &mut Vec<Part>, part: Part) -> Result<(), AllocError>
+fn push(typed: &mut Vec<TypedPart>, part: TypedPart) -> Result<(), AllocError>
     ensures { OnOk result (typed.new.items ≡ typed.old.items ++ part ∷ []) }
 {
     typed.push(part)?;
@@ -311,36 +314,42 @@ fn push(typed: &mut Vec<Part>, part: Part) -> Result<(), AllocError>
 
 /// An `if` with an `else`, of its typed parts.
 fn if_else(
-    tested: (Box<Stmt>, Expr),
-    other: Result<Box<Stmt>, AllocError>,
-) -> Result<Stmt, AllocError>
-    ensures { IfOk result (λ all. (spared : Box typed.Stmt Global) × (other ≡ Ok spared) × (all ≡ v.IfElse tested.1 tested.0 spared)) }
+    tested: (Box<TypedStmt>, TypedExpr),
+    other: Result<Box<TypedStmt>, AllocError>,
+) -> Result<TypedStmt, AllocError>
+    ensures { IfOk result (λ all. (spared : Box typed.TypedStmt Global) × (other ≡ Ok spared) × (all ≡ v.IfElse tested.1 tested.0 spared)) }
 {
     let ((then, test), other) = zip(Ok(tested), other)?;
-    Ok(Stmt::IfElse { test, then, other })
+    Ok(TypedStmt::IfElse { test, then, other })
 }
 
 /// The typed statement of a statement without faults.
 #[cycle(statements)]
-fn stmt_of(alloc: Global, scope: &mut Scope, stmt: &statement::Stmt) -> Result<Stmt, AllocError>
+fn stmt_of(
+    alloc: Global,
+    scope: &mut Scope,
+    stmt: &statement::Stmt,
+) -> Result<TypedStmt, AllocError>
     requires { (gives : Bool) × (loops : Bool) × (stmt_faults scope.old gives loops (stmt_view stmt.now) ≡ []) }
-    ensures typed { IfOk result (λ typed. IsStmt scope.old (stmt_view stmt.now) (pure_stmt typed)) }
+    ensures typed { IfOk result (λ typed. IsTypedStmt scope.old (stmt_view stmt.now) (pure_stmt typed)) }
     ensures scope { OnOk result (scope.new ≡ scope.old) }
 {
     match stmt {
-        statement::Stmt::Block { parts, .. } => Ok(Stmt::Block(block_of(alloc, scope, parts)?)),
-        statement::Stmt::Empty(_) => Ok(Stmt::Empty),
-        statement::Stmt::Simple { simple, .. } => Ok(Stmt::Simple(simple_of(
+        statement::Stmt::Block { parts, .. } => Ok(TypedStmt::Block(block_of(
+            alloc, scope, parts,
+        )?)),
+        statement::Stmt::Empty(_) => Ok(TypedStmt::Empty),
+        statement::Stmt::Simple { simple, .. } => Ok(TypedStmt::Simple(simple_of(
             alloc, scope, simple,
         )?)),
-        statement::Stmt::Break { .. } => Ok(Stmt::Break),
-        statement::Stmt::Continue { .. } => Ok(Stmt::Continue),
+        statement::Stmt::Break { .. } => Ok(TypedStmt::Break),
+        statement::Stmt::Continue { .. } => Ok(TypedStmt::Continue),
         statement::Stmt::Return { value, .. } => {
-            Ok(Stmt::Return(returned_of(alloc, scope, value)?))
+            Ok(TypedStmt::Return(returned_of(alloc, scope, value)?))
         }
         statement::Stmt::If { test, then, .. } => {
             let (then, test) = tested_of(alloc, scope, then, test)?;
-            Ok(Stmt::If { test, then })
+            Ok(TypedStmt::If { test, then })
         }
         statement::Stmt::IfElse {
             test,
@@ -353,11 +362,11 @@ fn stmt_of(alloc: Global, scope: &mut Scope, stmt: &statement::Stmt) -> Result<S
         }
         statement::Stmt::While { test, body, .. } => {
             let (body, test) = tested_of(alloc, scope, body, test)?;
-            Ok(Stmt::While { test, body })
+            Ok(TypedStmt::While { test, body })
         }
         statement::Stmt::Do { test, body, .. } => {
             let (body, test) = tested_of(alloc, scope, body, test)?;
-            Ok(Stmt::Do { body, test })
+            Ok(TypedStmt::Do { body, test })
         }
         statement::Stmt::For {
             start,
@@ -375,9 +384,9 @@ fn block_of(
     alloc: Global,
     scope: &mut Scope,
     parts: &[statement::Part],
-) -> Result<Vec<Part>, AllocError>
+) -> Result<Vec<TypedPart>, AllocError>
     requires { (gives : Bool) × (loops : Bool) × (parts_faults (opened scope.old) gives loops (parts_view parts.now) ≡ []) }
-    ensures typed { IfOk result (λ typed. AreParts (opened scope.old) (parts_view parts.now) (pure_parts typed.items)) }
+    ensures typed { IfOk result (λ typed. AreTypedParts (opened scope.old) (parts_view parts.now) (pure_parts typed.items)) }
     ensures scope { OnOk result (scope.new ≡ scope.old) }
 {
     scope.open()?;
@@ -395,11 +404,11 @@ fn for_of(
     test: &Option<tree::Expr>,
     step: &Option<statement::Simple>,
     body: &statement::Stmt,
-) -> Result<Stmt, AllocError>
+) -> Result<TypedStmt, AllocError>
     requires start { start_faults (opened scope.old) (start_view start.now) ≡ [] }
     requires step { step_faults (after_start (opened scope.old) (start_view start.now)) (option_map simple_view step.now) ≡ [] }
     requires body { (gives : Bool) × (loops : Bool) × (stmt_faults (after_start (opened scope.old) (start_view start.now)) gives loops (stmt_view body.now) ≡ []) }
-    ensures typed { IfOk result (λ typed. (keyword opening start_end test_end closing : Span) → IsStmt scope.old (t.for keyword opening (start_view start.now) start_end (option_map view test.now) test_end (option_map simple_view step.now) closing (stmt_view body.now)) (pure_stmt typed)) }
+    ensures typed { IfOk result (λ typed. (keyword opening start_end test_end closing : Span) → IsTypedStmt scope.old (t.for keyword opening (start_view start.now) start_end (option_map view test.now) test_end (option_map simple_view step.now) closing (stmt_view body.now)) (pure_stmt typed)) }
     ensures scope { OnOk result (scope.new ≡ scope.old) }
 {
     scope.open()?;
@@ -409,7 +418,7 @@ fn for_of(
     let head = zip3(Ok(start), test, step);
     let ((start, test, step), body) = zip(head, boxed_of(alloc, scope, body))?;
     scope.close();
-    Ok(Stmt::For {
+    Ok(TypedStmt::For {
         start,
         test,
         step,
@@ -422,9 +431,9 @@ fn boxed_of(
     alloc: Global,
     scope: &mut Scope,
     stmt: &statement::Stmt,
-) -> Result<Box<Stmt>, AllocError>
+) -> Result<Box<TypedStmt>, AllocError>
     requires { (gives : Bool) × (loops : Bool) × (stmt_faults scope.old gives loops (stmt_view stmt.now) ≡ []) }
-    ensures typed { IfOk result (λ typed. IsStmt scope.old (stmt_view stmt.now) (pure_stmt typed.value)) }
+    ensures typed { IfOk result (λ typed. IsTypedStmt scope.old (stmt_view stmt.now) (pure_stmt typed.value)) }
     ensures scope { OnOk result (scope.new ≡ scope.old) }
 {
     let typed = stmt_of(alloc, scope, stmt)?;
@@ -438,10 +447,10 @@ fn tested_of(
     scope: &mut Scope,
     stmt: &statement::Stmt,
     test: &tree::Expr,
-) -> Result<(Box<Stmt>, Expr), AllocError>
+) -> Result<(Box<TypedStmt>, TypedExpr), AllocError>
     requires { (gives : Bool) × (loops : Bool) × (stmt_faults scope.old gives loops (stmt_view stmt.now) ≡ []) }
-    ensures stmt { IfOk result (λ all. IsStmt scope.old (stmt_view stmt.now) (pure_stmt all.0.value)) }
-    ensures test { IfOk result (λ all. IsExpr scope.old (view test.now) (pure_expr all.1)) }
+    ensures stmt { IfOk result (λ all. IsTypedStmt scope.old (stmt_view stmt.now) (pure_stmt all.0.value)) }
+    ensures test { IfOk result (λ all. IsTypedExpr scope.old (view test.now) (pure_expr all.1)) }
     ensures scope { OnOk result (scope.new ≡ scope.old) }
 {
     let test = expr_of(alloc, scope, test);
@@ -450,16 +459,20 @@ fn tested_of(
 }
 
 #[cycle(statements)]
-fn part_of(alloc: Global, scope: &mut Scope, part: &statement::Part) -> Result<Part, AllocError>
+fn part_of(
+    alloc: Global,
+    scope: &mut Scope,
+    part: &statement::Part,
+) -> Result<TypedPart, AllocError>
     requires { (gives : Bool) × (loops : Bool) × (part_faults scope.old gives loops (part_view part.now) ≡ []) }
-    ensures typed { IfOk result (λ typed. IsPart scope.old (part_view part.now) (pure_part typed)) }
+    ensures typed { IfOk result (λ typed. IsTypedPart scope.old (part_view part.now) (pure_part typed)) }
     ensures scope { OnOk result (scope.new ≡ after_part scope.old (part_view part.now)) }
 {
     match part {
         statement::Part::Declaration { declaration, .. } => {
-            Ok(Part::Declaration(declaration_of(alloc, scope, declaration)?))
+            Ok(TypedPart::Declaration(declaration_of(alloc, scope, declaration)?))
         }
-        statement::Part::Stmt(stmt) => Ok(Part::Stmt(stmt_of(alloc, scope, stmt)?)),
+        statement::Part::Stmt(stmt) => Ok(TypedPart::Stmt(stmt_of(alloc, scope, stmt)?)),
     }
 }
 
@@ -470,9 +483,9 @@ pub fn parts_of(
     alloc: Global,
     scope: &mut Scope,
     parts: &[statement::Part],
-) -> Result<Vec<Part>, AllocError>
+) -> Result<Vec<TypedPart>, AllocError>
     requires { (gives : Bool) × (loops : Bool) × (parts_faults scope.old gives loops (parts_view parts.now) ≡ []) }
-    ensures typed { IfOk result (λ typed. AreParts scope.old (parts_view parts.now) (pure_parts typed.items)) }
+    ensures typed { IfOk result (λ typed. AreTypedParts scope.old (parts_view parts.now) (pure_parts typed.items)) }
     ensures scope { OnOk result (scope.new ≡ after_parts scope.old (parts_view parts.now)) }
 {
     let mut typed = Vec::new(alloc);

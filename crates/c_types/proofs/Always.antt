@@ -5,11 +5,11 @@ use Rattle.c_lex.specs.declared.fault.SourceFault.{SourceFault}
 use Rattle.c_lex.specs.declared.token.Token.{Token}
 use Rattle.c_lex.proofs.Existence.{fault_of, tokens_or_fault}
 use Rattle.c_grammar.specs.Tree.{Tree}
-use Rattle.c_parse.specs.Parsing.{IsTree}
+use Rattle.c_parse.specs.Parsing.{IsTreeOfTokens}
 use Rattle.c_parse.proofs.OneReading.{tree_or_fault}
 use Rattle.c_program.specs.Tree.{Program}
 use Rattle.c_check.specs.Programs.{faults}
-use Rattle.c_check_expr.specs.Least.{IsFirst}
+use Rattle.c_check_expr.specs.Least.{IsLeastFault}
 use Rattle.c_check_expr.specs.declared.fault.TypingFault.{TypingFault}
 use Rattle.c_check_expr.proofs.Least.{none_or_first}
 use Rattle.c_types.specs.Checks as x
@@ -19,12 +19,12 @@ use Rattle.c_types.proofs.Total.{program_total}
 abbrev pub Answer : List ℕ → Type 0
 Answer text = ((program : Program) × IsProgramOf text program) ⊎ ((fault : SourceFault) × IsFaultOf text fault)
 
-first_in : (text : List ℕ) (fs : List TypingFault) (first : TypingFault) → IsFirst fs first → (fault : SourceFault) × IsFirstIn text fs fault
+first_in : (text : List ℕ) (fs : List TypingFault) (first : TypingFault) → IsLeastFault fs first → (fault : SourceFault) × IsFirstIn text fs fault
 first_in text fs first is =
     let there = fault_of text (min (length text) first.at) first.why in
     (there.0, record { fault = first; first = is; place = there.2; why = there.1 })
 
-typed_or_fault : (text : List ℕ) (tokens : List Token) (tree : Tree) → AreTokens text tokens → IsTree text tokens tree → Answer text
+typed_or_fault : (text : List ℕ) (tokens : List Token) (tree : Tree) → AreTokens text tokens → IsTreeOfTokens text tokens tree → Answer text
 typed_or_fault text tokens tree lexed parsed = elim (none_or_first (faults text tree)) [
   | inl none ↦
       let typed = program_total text tree parsed.0 none in

@@ -6,24 +6,24 @@ use Rattle.c_names.specs.declared.function.ArgumentKind.{ArgumentKind}
 use Rattle.c_names.specs.declared.function.MpiFunction.{MpiFunction}
 use Rattle.c_names.specs.declared.kind.VariableKind.{VariableKind}
 use Rattle.c_names.specs.declared.predefined.Predefined.TheVariants as p
-use Rattle.c_program.specs.declared.program.Parameter.{Parameter}
+use Rattle.c_program.specs.declared.program.TypedParameter.{TypedParameter}
 use Rattle.c_program.specs.Tree as pure
-use Rattle.c_program.specs.Tree.{Argument, Buffer, Expr, ForStart, Function, FunctionCall, Incoming, InitDeclarator, Initializer, Links, MpiCall, Outgoing, Part, Parts, Place, Program, Reduction, Reference, Right, Simple, SomeRequests, Stmt}
+use Rattle.c_program.specs.Tree.{TypedArgument, Buffer, TypedExpr, TypedForStart, Function, FunctionCall, Incoming, TypedInitDeclarator, TypedInitializer, TypedLinks, MpiCall, Outgoing, TypedPart, TypedParts, TypedPlace, Program, Reduction, Reference, TypedRight, TypedSimple, SomeRequests, TypedStmt}
 use Rattle.c_check.specs.Calls.{arguments_of, predefined_of, signature_takes}
 use Rattle.c_check_expr.specs.Constants.{operator_of, unary_of}
 use Rattle.c_check_expr.specs.Scopes.{Env, token_bytes}
 use Rattle.c_check_expr.specs.Variables.{variable}
 use Rattle.c_type_expr.specs.Calls as c
-use Rattle.c_type_expr.specs.Calls.{AreArguments, IsArgument, IsCall, IsReference, IsRight, IsValue}
+use Rattle.c_type_expr.specs.Calls.{AreTypedArguments, IsTypedArgument, IsTypedCall, IsReference, IsTypedRight, IsTypedValue}
 use Rattle.c_type_expr.specs.Exprs as x
-use Rattle.c_type_expr.specs.Exprs.{AreLinks, IsExpr, IsPlace, field_of}
+use Rattle.c_type_expr.specs.Exprs.{AreTypedLinks, IsTypedExpr, IsTypedPlace, field_of}
 use Rattle.c_type_mpi.specs.MpiCalls as y
 use Rattle.c_type_mpi.specs.MpiCalls.{IsBuffer, IsIncoming, IsMpiCall, IsOperation, IsOutgoing, IsReduction, IsSeveral, IsStatus}
 use Rattle.c_type_stmt.specs.Statements as z
-use Rattle.c_type_stmt.specs.Statements.{AreExprs, AreItems, AreParts, AreValues, IsInitializer, IsItem, IsPart, IsReturn, IsSimple, IsStart, IsStep, IsStmt, IsTest, update_of}
+use Rattle.c_type_stmt.specs.Statements.{AreTypedExprs, AreTypedItems, AreTypedParts, AreValues, IsTypedInitializer, IsTypedItem, IsTypedPart, IsReturn, IsTypedSimple, IsTypedForStart, IsTypedStep, IsTypedStmt, IsTest, update_of}
 use Rattle.c_types.specs.Checks.{IsProgramOf}
 use Rattle.c_types.specs.Programs as w
-use Rattle.c_types.specs.Programs.{AreFunctions, AreParameters, IsFunction, IsParameter, IsProgram}
+use Rattle.c_types.specs.Programs.{AreFunctions, AreTypedParameters, IsFunction, IsTypedParameter, IsProgram}
 use Rattle.c_types.proofs.CheckRules.{lists_one, tree_one}
 
 one_operation : (env : Env) (given : t.Argument) (a b : Op) → IsOperation env given a → IsOperation env given b → a ≡ b
@@ -33,7 +33,7 @@ module _ {env : Env} where
   -- ---- expressions
 
   mutual
-    one_value : {e : t.Expr} {a b : Expr} → IsExpr env e a → IsExpr env e b → a ≡ b
+    one_value : {e : t.Expr} {a b : TypedExpr} → IsTypedExpr env e a → IsTypedExpr env e b → a ≡ b
     one_value x.number x.number = refl
     one_value (x.value {value = v} g) (x.value {value = w} h) = let q : v ≡ w = cc in ap pure.number q
     one_value (x.value g) (x.read h place) = absurd (cc)
@@ -46,15 +46,15 @@ module _ {env : Env} where
     one_value (x.choice test one two) (x.choice other_test other_one other_two) =
         λ i. pure.choice (one_value test other_test i) (one_value one other_one i) (one_value two other_two i)
 
-    one_place : {place : t.Place} {a b : Place} → IsPlace env place a → IsPlace env place b → a ≡ b
+    one_place : {place : t.Place} {a b : TypedPlace} → IsTypedPlace env place a → IsTypedPlace env place b → a ≡ b
     one_place x.whole x.whole = refl
     one_place (x.element {name = name} one) (x.element other) = λ i. pure.element (variable env name) (one_value one other i)
 
-    one_links : {ls : t.Links} {xs ys : Links} → AreLinks env ls xs → AreLinks env ls ys → xs ≡ ys
+    one_links : {ls : t.Links} {xs ys : TypedLinks} → AreTypedLinks env ls xs → AreTypedLinks env ls ys → xs ≡ ys
     one_links x.no_link x.no_link = refl
     one_links (x.link {operator = operator} one all) (x.link other both) = λ i. pure.link (operator_of operator) (one_value one other i) (one_links all both i)
 
-  one_given : {given : t.Argument} {a b : Expr} → IsValue env given a → IsValue env given b → a ≡ b
+  one_given : {given : t.Argument} {a b : TypedExpr} → IsTypedValue env given a → IsTypedValue env given b → a ≡ b
   one_given (c.value one) (c.value other) = one_value one other
 
   -- ---- references
@@ -76,24 +76,24 @@ module _ {env : Env} where
 
   -- ---- calls of functions of the text
 
-  one_argument : {kind : ArgumentKind} {given : t.Argument} {a b : Argument} → IsArgument env kind given a → IsArgument env kind given b → a ≡ b
+  one_argument : {kind : ArgumentKind} {given : t.Argument} {a b : TypedArgument} → IsTypedArgument env kind given a → IsTypedArgument env kind given b → a ≡ b
   one_argument (c.number one) (c.number other) = λ i. pure.by_value (one_given one other i)
   one_argument (c.communicator one) (c.communicator other) = λ i. pure.by_value (one_given one other i)
   one_argument (c.ints one) (c.ints other) = λ i. pure.by_reference (one_reference one other i)
 
-  one_arguments : {kinds : List ArgumentKind} {given : List t.Argument} {xs ys : List Argument} → AreArguments env kinds given xs → AreArguments env kinds given ys → xs ≡ ys
+  one_arguments : {kinds : List ArgumentKind} {given : List t.Argument} {xs ys : List TypedArgument} → AreTypedArguments env kinds given xs → AreTypedArguments env kinds given ys → xs ≡ ys
   one_arguments c.no_argument c.no_argument = refl
   one_arguments (c.argument one all) (c.argument other both) = λ i. one_argument one other i ∷ one_arguments all both i
 
-  one_call : {call : t.Call} {a b : FunctionCall} → IsCall env call a → IsCall env call b → a ≡ b
+  one_call : {call : t.WrittenCall} {a b : FunctionCall} → IsTypedCall env call a → IsTypedCall env call b → a ≡ b
   one_call {call} {a} {b} one other =
       let g = one.function in let h = other.function in
       let number : a.function ≡ b.function = cc in
       let given : a.arguments ≡ b.arguments =
-      one_arguments one.arguments (subst (λ f. AreArguments env (signature_takes (slice_get env.functions f)) (arguments_of call) b.arguments) (sym number) other.arguments) in
+      one_arguments one.arguments (subst (λ f. AreTypedArguments env (signature_takes (slice_get env.functions f)) (arguments_of call) b.arguments) (sym number) other.arguments) in
       λ i. record { function = number i; arguments = given i }
 
-  one_right : {right : t.Right} {a b : Right} → IsRight env right a → IsRight env right b → a ≡ b
+  one_right : {right : t.Right} {a b : TypedRight} → IsTypedRight env right a → IsTypedRight env right b → a ≡ b
   one_right (c.value one) (c.value other) = λ i. pure.value (one_value one other i)
   one_right (c.call one) (c.call other) = λ i. pure.called (one_call one other i)
 
@@ -193,11 +193,11 @@ module _ {env : Env} where
 
   -- ---- what stands before a `;`
 
-  one_values : {given : List t.Argument} {xs ys : List Expr} → AreValues env given xs → AreValues env given ys → xs ≡ ys
+  one_values : {given : List t.Argument} {xs ys : List TypedExpr} → AreValues env given xs → AreValues env given ys → xs ≡ ys
   one_values z.no_value z.no_value = refl
   one_values (z.value one all) (z.value other both) = λ i. one_given one other i ∷ one_values all both i
 
-  one_simple : {one : t.Simple} {a b : Simple} → IsSimple env one a → IsSimple env one b → a ≡ b
+  pub one_simple : {one : t.Simple} {a b : TypedSimple} → IsTypedSimple env one a → IsTypedSimple env one b → a ≡ b
   one_simple (z.set e place one) (z.set f goal other) = λ i. pure.set (one_place place goal i) (one_right one other i)
   one_simple (z.set e place one) (z.update f goal other) = absurd (cc)
   one_simple (z.update e place one) (z.set f goal other) = absurd (cc)
@@ -227,41 +227,41 @@ module _ {env : Env} where
 
   -- ---- parts of declarations and statements
 
-  one_exprs : {es : List t.Expr} {xs ys : List Expr} → AreExprs env es xs → AreExprs env es ys → xs ≡ ys
+  one_exprs : {es : List t.Expr} {xs ys : List TypedExpr} → AreTypedExprs env es xs → AreTypedExprs env es ys → xs ≡ ys
   one_exprs z.no_expr z.no_expr = refl
   one_exprs (z.expr one all) (z.expr other both) = λ i. one_value one other i ∷ one_exprs all both i
 
-  one_initial : {begun : Option t.Initializer} {a b : Initializer} → IsInitializer env begun a → IsInitializer env begun b → a ≡ b
+  one_initial : {begun : Option t.Initializer} {a b : TypedInitializer} → IsTypedInitializer env begun a → IsTypedInitializer env begun b → a ≡ b
   one_initial z.nothing z.nothing = refl
   one_initial (z.begun one) (z.begun other) = λ i. pure.right (one_right one other i)
   one_initial (z.braced one) (z.braced other) = λ i. pure.values (one_exprs one other i)
 
-  one_return : {given : Option t.Right} {a b : Option Right} → IsReturn env given a → IsReturn env given b → a ≡ b
+  one_return : {given : Option t.Right} {a b : Option TypedRight} → IsReturn env given a → IsReturn env given b → a ≡ b
   one_return z.bare z.bare = refl
   one_return (z.given one) (z.given other) = ap Some (one_right one other)
 
-  one_test : {test : Option t.Expr} {a b : Option Expr} → IsTest env test a → IsTest env test b → a ≡ b
+  one_test : {test : Option t.Expr} {a b : Option TypedExpr} → IsTest env test a → IsTest env test b → a ≡ b
   one_test z.no_test z.no_test = refl
   one_test (z.test one) (z.test other) = ap Some (one_value one other)
 
-  one_step : {step : Option t.Simple} {a b : Option Simple} → IsStep env step a → IsStep env step b → a ≡ b
+  one_step : {step : Option t.Simple} {a b : Option TypedSimple} → IsTypedStep env step a → IsTypedStep env step b → a ≡ b
   one_step z.no_step z.no_step = refl
   one_step (z.step one) (z.step other) = ap Some (one_simple one other)
 
 -- ---- declarations
 
-one_item : {env : Env} {kind : VariableKind} {item : t.InitDeclarator} {a b : InitDeclarator} → IsItem env kind item a → IsItem env kind item b → a ≡ b
+one_item : {env : Env} {kind : VariableKind} {item : t.InitDeclarator} {a b : TypedInitDeclarator} → IsTypedItem env kind item a → IsTypedItem env kind item b → a ≡ b
 one_item {a = a} {b = b} one other =
     let name : a.name ≡ b.name = one.name ∙ sym other.name in
     let kind : a.kind ≡ b.kind = one.kind_is ∙ sym other.kind_is in
     let long : a.length ≡ b.length = one.length ∙ sym other.length in
     λ i. record { name = name i; kind = kind i; length = long i; initial = one_initial one.initial other.initial i }
 
-one_items : {kind : VariableKind} {env : Env} {items : List t.InitDeclarator} {xs ys : List InitDeclarator} → AreItems kind env items xs → AreItems kind env items ys → xs ≡ ys
+pub one_items : {kind : VariableKind} {env : Env} {items : List t.InitDeclarator} {xs ys : List TypedInitDeclarator} → AreTypedItems kind env items xs → AreTypedItems kind env items ys → xs ≡ ys
 one_items z.no_item z.no_item = refl
 one_items (z.item one all) (z.item other both) = λ i. one_item one other i ∷ one_items all both i
 
-one_start : {env : Env} {start : t.ForStart} {a b : ForStart} → IsStart env start a → IsStart env start b → a ≡ b
+one_start : {env : Env} {start : t.ForStart} {a b : TypedForStart} → IsTypedForStart env start a → IsTypedForStart env start b → a ≡ b
 one_start z.no_start z.no_start = refl
 one_start (z.declared_start one) (z.declared_start other) = λ i. pure.declared_start (one_items one other i)
 one_start (z.simple_start one) (z.simple_start other) = λ i. pure.simple_start (one_simple one other i)
@@ -269,7 +269,7 @@ one_start (z.simple_start one) (z.simple_start other) = λ i. pure.simple_start 
 -- ---- statements
 
 mutual
-  one_stmt : {env : Env} {one : t.Stmt} {a b : Stmt} → IsStmt env one a → IsStmt env one b → a ≡ b
+  pub one_stmt : {env : Env} {one : t.Stmt} {a b : TypedStmt} → IsTypedStmt env one a → IsTypedStmt env one b → a ≡ b
   one_stmt (z.block one) (z.block other) = λ i. pure.block (one_parts one other i)
   one_stmt z.empty z.empty = refl
   one_stmt (z.simple one) (z.simple other) = λ i. pure.simple (one_simple one other i)
@@ -283,17 +283,17 @@ mutual
   one_stmt (z.for start first turn one) (z.for begin second last other) =
       λ i. pure.for (one_start start begin i) (one_test first second i) (one_step turn last i) (one_stmt one other i)
 
-  one_part : {env : Env} {one : t.Part} {a b : Part} → IsPart env one a → IsPart env one b → a ≡ b
+  one_part : {env : Env} {one : t.Part} {a b : TypedPart} → IsTypedPart env one a → IsTypedPart env one b → a ≡ b
   one_part (z.declare one) (z.declare other) = λ i. pure.declare (one_items one other i)
   one_part (z.stmt one) (z.stmt other) = λ i. pure.stmt (one_stmt one other i)
 
-  one_parts : {env : Env} {parts : t.Parts} {xs ys : Parts} → AreParts env parts xs → AreParts env parts ys → xs ≡ ys
+  pub one_parts : {env : Env} {parts : t.Parts} {xs ys : TypedParts} → AreTypedParts env parts xs → AreTypedParts env parts ys → xs ≡ ys
   one_parts z.no_part z.no_part = refl
   one_parts (z.part one all) (z.part other both) = λ i. pure.part (one_part one other i) (one_parts all both i)
 
 -- ---- functions
 
-one_parameter : {text : List ℕ} {one : t.Parameter} {a b : Parameter} → IsParameter text one a → IsParameter text one b → a ≡ b
+one_parameter : {text : List ℕ} {one : t.Parameter} {a b : TypedParameter} → IsTypedParameter text one a → IsTypedParameter text one b → a ≡ b
 one_parameter {text} {a = a} {b = b} one other =
     let g = one.named in let h = other.named in
     let span : one.name ≡ other.name = cc in
@@ -301,11 +301,11 @@ one_parameter {text} {a = a} {b = b} one other =
     let kind : a.kind ≡ b.kind = one.kind_is ∙ sym other.kind_is in
     λ i. record { name = name i; kind = kind i }
 
-one_parameters : {text : List ℕ} {listed : List t.Parameter} {xs ys : List Parameter} → AreParameters text listed xs → AreParameters text listed ys → xs ≡ ys
+one_parameters : {text : List ℕ} {listed : List t.Parameter} {xs ys : List TypedParameter} → AreTypedParameters text listed xs → AreTypedParameters text listed ys → xs ≡ ys
 one_parameters w.no_parameter w.no_parameter = refl
 one_parameters (w.parameter one all) (w.parameter other both) = λ i. one_parameter one other i ∷ one_parameters all both i
 
-one_function : {env : Env} {head : t.Head} {parts : t.Parts} {a b : Function} → IsFunction env head parts a → IsFunction env head parts b → a ≡ b
+pub one_function : {env : Env} {head : t.Head} {parts : t.Parts} {a b : Function} → IsFunction env head parts a → IsFunction env head parts b → a ≡ b
 one_function one other = λ i. record { parameters = one_parameters one.parameters other.parameters i; body = one_parts one.body other.body i }
 
 one_functions : {env : Env} {externals : List t.ExternalDeclaration} {xs ys : List Function} → AreFunctions env externals xs → AreFunctions env externals ys → xs ≡ ys

@@ -4,7 +4,7 @@ use Rattle.std.specs.List.{list_any, position_from}
 use Rattle.std.specs.Option.{is_some, option_to_list}
 use Rattle.c_grammar.specs.declared.terminal.Span.{Span}
 use Rattle.c_grammar.specs.declared.statement.ExternalDeclaration as source_external
-use Rattle.c_grammar.specs.StmtGrammar.{AreExternals, IsExternal, are_named, has, is_named, name_of}
+use Rattle.c_grammar.specs.StmtGrammar.{AreExternals, IsExternal, are_named, has, all_named, name_of_parameter}
 use Rattle.c_grammar.specs.StmtView.{external_view}
 use Rattle.c_grammar.specs.Tree as t
 use Rattle.c_check.specs.Programs.{after_parameter, after_parameters, after_external, declare_optional, function_faults, heads_of, is_main, main_faults, parameter_name, parameter_entity, parameters_faults, external_faults, external_twice_faults, externals_faults, with_head}
@@ -13,21 +13,21 @@ use Rattle.c_check_expr.specs.declared.fault.TypingFault.{TypingFault}
 use Rattle.c_check_expr.specs.declared.meaning.Entity.{Entity}
 use Rattle.c_lex.specs.declared.fault.Why.TheVariants.{NoMain}
 use Rattle.c_program.specs.declared.program.Function.{Function}
-use Rattle.c_program.specs.declared.program.Parameter.{Parameter}
+use Rattle.c_program.specs.declared.program.TypedParameter.{TypedParameter}
 use Rattle.c_program.specs.View.{pure_function, pure_parts}
 use Rattle.c_check.proofs.Parameters.{after_parameters_next}
-use Rattle.c_check_expr.specs.Signatures.{is_int, parameters_listed}
+use Rattle.c_check_expr.specs.Signatures.{is_int_keyword, parameters_listed}
 use Rattle.c_check.specs.Statements.{parts_faults}
 use Rattle.c_check_expr.proofs.Lists.{drop_at, drop_got, drop_past}
 use Rattle.c_types.specs.Programs as x
-use Rattle.c_types.specs.Programs.{AreFunctions, AreParameters, IsFunction, IsFunctionOf, IsParameter}
-use Rattle.c_type_stmt.specs.Statements.{AreParts}
+use Rattle.c_types.specs.Programs.{AreFunctions, AreTypedParameters, IsFunction, IsFunctionOf, IsTypedParameter}
+use Rattle.c_type_stmt.specs.Statements.{AreTypedParts}
 use Rattle.c_type_expr.proofs.Faultless.{none_before, none_behind}
 use Rattle.c_type_stmt.proofs.Growing.{ended, grown}
 
 -- ---- parameters
 
-has_name : (one : t.Parameter) → has (name_of one) ≡ true → is_some (parameter_name one) ≡ true
+has_name : (one : t.Parameter) → has (name_of_parameter one) ≡ true → is_some (parameter_name one) ≡ true
 has_name (t.int keyword (Some name)) e = refl
 has_name (t.int keyword None) e = cc
 has_name (t.array keyword (Some name) opening length closing) e = refl
@@ -49,18 +49,18 @@ more_named : (more : List (Span × t.Parameter)) (i : ℕ) (one : t.Parameter) �
     → is_some (parameter_name one) ≡ true
 more_named [] i one n e = absurd (cc)
 more_named (first ∷ more) zero one n e =
-    let b = both (has (name_of first.1)) (are_named more) n in let q : first.1 ≡ one = cc in
+    let b = both (has (name_of_parameter first.1)) (are_named more) n in let q : first.1 ≡ one = cc in
     subst (λ z. is_some (parameter_name z) ≡ true) q (has_name first.1 b.0)
-more_named (first ∷ more) (suc i) one n e = more_named more i one (both (has (name_of first.1)) (are_named more) n).1 e
+more_named (first ∷ more) (suc i) one n e = more_named more i one (both (has (name_of_parameter first.1)) (are_named more) n).1 e
 
-pub each_named : (parameters : t.Parameters) (i : ℕ) (one : t.Parameter) → is_named parameters ≡ true → slice_get (parameters_listed parameters) i ≡ Some one
+pub each_named : (parameters : t.Parameters) (i : ℕ) (one : t.Parameter) → all_named parameters ≡ true → slice_get (parameters_listed parameters) i ≡ Some one
     → is_some (parameter_name one) ≡ true
 each_named t.no_parameter i one n e = absurd (cc)
 each_named (t.void at) i one n e = absurd (cc)
 each_named (t.parameters (t.comma_list first more)) zero one n e =
-    let b = both (has (name_of first)) (are_named more) n in let q : first ≡ one = cc in
+    let b = both (has (name_of_parameter first)) (are_named more) n in let q : first ≡ one = cc in
     subst (λ z. is_some (parameter_name z) ≡ true) q (has_name first b.0)
-each_named (t.parameters (t.comma_list first more)) (suc i) one n e = more_named more i one (both (has (name_of first)) (are_named more) n).1 e
+each_named (t.parameters (t.comma_list first more)) (suc i) one n e = more_named more i one (both (has (name_of_parameter first)) (are_named more) n).1 e
 
 after_text : (env : Env) (main : Bool) (one : t.Parameter) → (after_parameter env main one).text ≡ env.text
 after_text env main one = by_name (parameter_name one) (parameter_entity main one)
@@ -76,19 +76,19 @@ pub parameters_after : (env now last : Env) (main : Bool) (all : List t.Paramete
     → now ≡ after_parameter env main one → after_parameters env main (drop i all) ≡ last → after_parameters now main (drop (i + 1) all) ≡ last
 parameters_after env now last main all i one g n e = rw n (sym (after_parameters_next env main all i one g) ∙ e)
 
-pub parameters_more : (here text : List ℕ) (all : List t.Parameter) (i : ℕ) (one : t.Parameter) (before after : List Parameter) (typed : Parameter)
-    → after ≡ before ++ typed ∷ [] → slice_get all i ≡ Some one → here ≡ text → IsParameter here one typed
-    → ((more : List Parameter) → AreParameters text (drop i all) more → AreParameters text all (before ++ more))
-    → (more : List Parameter) → AreParameters text (drop (i + 1) all) more → AreParameters text all (after ++ more)
+pub parameters_more : (here text : List ℕ) (all : List t.Parameter) (i : ℕ) (one : t.Parameter) (before after : List TypedParameter) (typed : TypedParameter)
+    → after ≡ before ++ typed ∷ [] → slice_get all i ≡ Some one → here ≡ text → IsTypedParameter here one typed
+    → ((more : List TypedParameter) → AreTypedParameters text (drop i all) more → AreTypedParameters text all (before ++ more))
+    → (more : List TypedParameter) → AreTypedParameters text (drop (i + 1) all) more → AreTypedParameters text all (after ++ more)
 parameters_more here text all i one before after typed e g same h =
-    let P : List t.Parameter → List Parameter → Type 0 = λ left typed. AreParameters text left typed in
+    let P : List t.Parameter → List TypedParameter → Type 0 = λ left typed. AreTypedParameters text left typed in
     grown (P (drop i all)) (P (drop (i + 1) all)) (P all) before after typed e
-    (λ more rest. subst (λ left. P left (typed ∷ more)) (sym (drop_got all i one g)) (x.parameter (subst (λ z. IsParameter z one typed) same h) rest))
+    (λ more rest. subst (λ left. P left (typed ∷ more)) (sym (drop_got all i one g)) (x.parameter (subst (λ z. IsTypedParameter z one typed) same h) rest))
 
-pub parameters_end : (text : List ℕ) (all : List t.Parameter) (i : ℕ) (typed : List Parameter) → length all ≤ i
-    → ((more : List Parameter) → AreParameters text (drop i all) more → AreParameters text all (typed ++ more)) → AreParameters text all typed
+pub parameters_end : (text : List ℕ) (all : List t.Parameter) (i : ℕ) (typed : List TypedParameter) → length all ≤ i
+    → ((more : List TypedParameter) → AreTypedParameters text (drop i all) more → AreTypedParameters text all (typed ++ more)) → AreTypedParameters text all typed
 parameters_end text all i typed past so_far =
-    let P : List t.Parameter → List Parameter → Type 0 = λ left typed. AreParameters text left typed in
+    let P : List t.Parameter → List TypedParameter → Type 0 = λ left typed. AreTypedParameters text left typed in
     ended (P (drop i all)) (P all) typed (subst (λ left. P left []) (sym (drop_past all i past)) x.no_parameter) so_far
 
 -- ---- functions
@@ -97,11 +97,11 @@ pub body_faultless : (env first now : Env) (main : Bool) (head : t.Head) (parts 
     → now ≡ after_parameters first main (parameters_listed head.listed) → function_faults env head parts ≡ []
     → (gives : Bool) × (loops : Bool) × (parts_faults now gives loops parts ≡ [])
 body_faultless env first now main head parts o m n e =
-    rw (n, o, m) (is_int head.result, false, none_behind (parameters_faults (opened env) (is_main env.text head) (parameters_listed head.listed)) _ e)
+    rw (n, o, m) (is_int_keyword head.result, false, none_behind (parameters_faults (opened env) (is_main env.text head) (parameters_listed head.listed)) _ e)
 
 pub function_rule : (env first now : Env) (main : Bool) (head : t.Head) (parts : t.Parts) (typed : Function) → first ≡ opened env → main ≡ is_main env.text head
     → now ≡ after_parameters first main (parameters_listed head.listed)
-    → AreParameters first.text (parameters_listed head.listed) typed.parameters.items → AreParts now parts (pure_parts typed.body.items) → IsFunction env head parts (pure_function typed)
+    → AreTypedParameters first.text (parameters_listed head.listed) typed.parameters.items → AreTypedParts now parts (pure_parts typed.body.items) → IsFunction env head parts (pure_function typed)
 function_rule env first now main head parts typed o m n parameters body = record {
   parameters = rw o at parameters;
   body = rw (n, o, m) at body;

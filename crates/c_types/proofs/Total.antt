@@ -4,18 +4,18 @@ use Rattle.std.specs.List.{list_any, position_from}
 use Rattle.std.specs.Option.{is_some, option_to_list}
 use Rattle.std.proofs.lemmas.Iterator.Adapters.{position_from-zero}
 use Rattle.c_grammar.specs.declared.terminal.Span.{Span}
-use Rattle.c_grammar.specs.StmtGrammar.{AreExternals, IsExternal, is_named}
+use Rattle.c_grammar.specs.StmtGrammar.{AreExternals, IsExternal, all_named}
 use Rattle.c_grammar.specs.Tree as t
 use Rattle.c_check.specs.Programs.{after_external, after_parameter, after_parameters, declare_optional, external_faults, external_twice_faults, externals_faults, faults, function_faults, heads_of, is_main, parameter_entity, parameter_name, parameters_faults, seen_after, text_env}
 use Rattle.c_check_expr.specs.Scopes.{Env, opened, token_bytes}
-use Rattle.c_check_expr.specs.Signatures.{is_int, parameters_listed}
+use Rattle.c_check_expr.specs.Signatures.{is_int_keyword, parameters_listed}
 use Rattle.c_check_expr.specs.declared.meaning.Entity.{Entity}
-use Rattle.c_program.specs.declared.program.Parameter.{Parameter}
+use Rattle.c_program.specs.declared.program.TypedParameter.{TypedParameter}
 use Rattle.c_program.specs.Tree.{Function, Program}
 use Rattle.c_type_expr.proofs.Faultless.{cases, none_before, none_behind}
 use Rattle.c_type_stmt.proofs.Total.{HasHeads, heads_opened, parts_total, some_of}
 use Rattle.c_types.specs.Programs as x
-use Rattle.c_types.specs.Programs.{AreFunctions, AreParameters, IsFunction, IsFunctionOf, IsParameter, IsProgram, parameter_kind}
+use Rattle.c_types.specs.Programs.{AreFunctions, AreTypedParameters, IsFunction, IsFunctionOf, IsTypedParameter, IsProgram, parameter_kind}
 use Rattle.c_types.proofs.ProgramRules.{each_named, has_main}
 
 -- ---- parameters
@@ -29,14 +29,14 @@ heads_parameters env main [] heads = heads
 heads_parameters env main (one ∷ others) heads =
     heads_parameters (after_parameter env main one) main others (heads_optional env (parameter_name one) (parameter_entity main one) heads)
 
-parameter_total : (text : List ℕ) (one : t.Parameter) → is_some (parameter_name one) ≡ true → (typed : Parameter) × IsParameter text one typed
+parameter_total : (text : List ℕ) (one : t.Parameter) → is_some (parameter_name one) ≡ true → (typed : TypedParameter) × IsTypedParameter text one typed
 parameter_total text one h =
     let name = some_of (parameter_name one) h in
     (record { name = token_bytes text name.0; kind = parameter_kind one }, record { name = name.0; named = name.1; name_is = refl; kind_is = refl })
 
 parameters_total : (text : List ℕ) (parameters : List t.Parameter)
     → ((i : ℕ) (one : t.Parameter) → slice_get parameters i ≡ Some one → is_some (parameter_name one) ≡ true)
-    → (typed : List Parameter) × AreParameters text parameters typed
+    → (typed : List TypedParameter) × AreTypedParameters text parameters typed
 parameters_total text [] named = ([], x.no_parameter)
 parameters_total text (one ∷ others) named =
     let first = parameter_total text one (named 0 one refl) in
@@ -45,7 +45,7 @@ parameters_total text (one ∷ others) named =
 
 -- ---- functions
 
-function_total : (env : Env) (head : t.Head) (parts : t.Parts) → HasHeads env → is_named head.listed ≡ true → function_faults env head parts ≡ []
+function_total : (env : Env) (head : t.Head) (parts : t.Parts) → HasHeads env → all_named head.listed ≡ true → function_faults env head parts ≡ []
     → (typed : Function) × IsFunction env head parts typed
 function_total env head parts heads named h =
     let main = is_main env.text head in
@@ -53,7 +53,7 @@ function_total env head parts heads named h =
     let inner = after_parameters (opened env) main listed in
     let parameters = parameters_total env.text listed (λ i one. each_named head.listed i one named) in
     let body = parts_total inner parts (heads_parameters (opened env) main listed (heads_opened env heads))
-    (is_int head.result, false, none_behind (parameters_faults (opened env) main listed) _ h) in
+    (is_int_keyword head.result, false, none_behind (parameters_faults (opened env) main listed) _ h) in
     (record { parameters = parameters.0; body = body.0 }, record { parameters = parameters.1; body = body.1 })
 
 external_total : (env : Env) (seen : List (List ℕ)) (external : t.ExternalDeclaration) → HasHeads env → IsExternal external

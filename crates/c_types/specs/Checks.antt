@@ -7,17 +7,17 @@ use Rattle.c_lex.specs.Readings.{AreTokens}
 use Rattle.c_lex.specs.declared.token.Token.{Token}
 use Rattle.c_grammar.specs.Tree as t
 use Rattle.c_parse.specs.Parsing as parsed
-use Rattle.c_parse.specs.Parsing.{IsTree}
+use Rattle.c_parse.specs.Parsing.{IsTreeOfTokens}
 use Rattle.c_program.specs.Tree.{Program}
 use Rattle.c_types.specs.Programs.{IsProgram}
 use Rattle.c_check.specs.Programs.{faults}
-use Rattle.c_check_expr.specs.Least.{IsFirst}
+use Rattle.c_check_expr.specs.Least.{IsLeastFault}
 use Rattle.c_check_expr.specs.declared.fault.TypingFault.{TypingFault}
 
 -- a token lies in its text, so the least of the two is its place
 pub record IsFirstIn (text : List ℕ) (faults : List TypingFault) (found : SourceFault) : Type 0 where
   pub fault : TypingFault
-  pub first : IsFirst faults fault
+  pub first : IsLeastFault faults fault
   pub place : IsPlaceOf text (min (length text) fault.at) found.line found.column
   pub why : found.why ≡ fault.why
 
@@ -26,13 +26,13 @@ pub record IsProgramOf (text : List ℕ) (program : Program) : Type 0 where
   pub tokens : List Token
   pub tree : t.Tree
   pub lexed : AreTokens text tokens
-  pub parsed : IsTree text tokens tree
+  pub parsed : IsTreeOfTokens text tokens tree
   pub faultless : faults text tree ≡ []
   pub typed : IsProgram text tree program
 
 -- the first fault of the first stage that has one
 pub data IsFaultOf (text : List ℕ) (found : SourceFault) : Type 0 where
-  of_tokens : lexed.IsFirstFault text found → IsFaultOf text found
-  of_tree : (tokens : List Token) → AreTokens text tokens → parsed.IsFirstFault text tokens found → IsFaultOf text found
-  of_types : (tokens : List Token) (tree : t.Tree) → AreTokens text tokens → IsTree text tokens tree → IsFirstIn text (faults text tree) found
+  of_tokens : lexed.IsFirstLexicalFault text found → IsFaultOf text found
+  of_tree : (tokens : List Token) → AreTokens text tokens → parsed.IsFirstSyntaxFault text tokens found → IsFaultOf text found
+  of_types : (tokens : List Token) (tree : t.Tree) → AreTokens text tokens → IsTreeOfTokens text tokens tree → IsFirstIn text (faults text tree) found
       → IsFaultOf text found

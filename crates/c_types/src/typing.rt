@@ -2,9 +2,9 @@
 ghost use Rattle.std.specs.Prelude.{◌≡◌, ◌≤◌, ◌⊎◌, ◌++◌, ℕ, List, IfErr, IfOk, MatchResult, OnOk, Some, [], length, map, min, option_map, true};
 ghost use Rattle.std.specs.List.{list_any, position};
 ghost use Rattle.std.specs.Option.{is_some, option_to_list};
-ghost use Rattle.c_grammar.specs.StmtGrammar.{AreExternals, IsExternal, is_named};
+ghost use Rattle.c_grammar.specs.StmtGrammar.{AreExternals, IsExternal, all_named};
 ghost use Rattle.c_grammar.specs.StmtView.{head_view, parameter_view, parameters_view, parts_view, external_view, tree_view};
-ghost use Rattle.c_lex.specs.NoMemory.{no_memory};
+ghost use Rattle.c_lex.specs.NoMemory.{no_memory_fault};
 ghost use Rattle.c_lex.specs.Places.{IsPlaceOf};
 ghost use Rattle.c_lex.specs.declared.fault.SourceFault.{SourceFault};
 ghost use Rattle.c_lex.specs.declared.limits.TheConstants.{MOST_BYTES};
@@ -13,7 +13,7 @@ ghost use Rattle.c_program.specs.View.{pure_function, pure_program};
 ghost use Rattle.c_check.specs.Programs.{after_parameter, after_parameters, after_external, faults, function_faults, heads_of, is_main, parameter_name, external_faults, externals_faults, with_head};
 ghost use Rattle.c_check_expr.specs.Signatures.{parameters_listed};
 ghost use Rattle.c_types.specs.Checks.{IsFaultOf, IsFirstIn, IsProgramOf};
-ghost use Rattle.c_types.specs.Programs.{AreFunctions, AreParameters, IsFunction, IsFunctionOf, IsParameter, IsProgram, parameter_kind};
+ghost use Rattle.c_types.specs.Programs.{AreFunctions, AreTypedParameters, IsFunction, IsFunctionOf, IsTypedParameter, IsProgram, parameter_kind};
 
 use c_check::call::{parameter_at, parameter_count};
 use c_check::program::{
@@ -27,7 +27,7 @@ use c_grammar::statement;
 use c_grammar::statement::{ExternalDeclaration, Head, Tree};
 use c_lex::{SourceFault, fault_at, tokens};
 use c_parse::parse;
-use c_program::program::{CProgram, Function, Parameter, ParameterKind};
+use c_program::program::{CProgram, Function, ParameterKind, TypedParameter};
 use c_type_stmt::statement_of::parts_of;
 use std::alloc::{AllocError, Global};
 use wiz_base::Bytes;
@@ -51,9 +51,9 @@ fn parameter_of(
     scope: &mut Scope,
     main: bool,
     parameter: &statement::Parameter,
-) -> Result<Parameter, AllocError>
+) -> Result<TypedParameter, AllocError>
     requires { is_some (parameter_name (parameter_view parameter.now)) ≡ true }
-    ensures typed { IfOk result (λ typed. IsParameter scope.old.text (parameter_view parameter.now) typed) }
+    ensures typed { IfOk result (λ typed. IsTypedParameter scope.old.text (parameter_view parameter.now) typed) }
     ensures scope { OnOk result (scope.new ≡ after_parameter scope.old main (parameter_view parameter.now)) }
 {
     let Some(span) = parameter_name(parameter) else {
@@ -61,7 +61,7 @@ fn parameter_of(
     };
     let name = Bytes::from_slice(alloc, token_bytes(scope.text(), span))?;
     scope.declare(span, parameter_entity(main, parameter))?;
-    Ok(Parameter {
+    Ok(TypedParameter {
         name,
         kind: parameter_kind(parameter),
     })
@@ -72,9 +72,9 @@ fn parameters_of(
     scope: &mut Scope,
     main: bool,
     head: &Head,
-) -> Result<Vec<Parameter>, AllocError>
-    requires { is_named (parameters_view head.now.parameters) ≡ true }
-    ensures typed { IfOk result (λ typed. AreParameters scope.old.text (parameters_listed (parameters_view head.now.parameters)) typed.items) }
+) -> Result<Vec<TypedParameter>, AllocError>
+    requires { all_named (parameters_view head.now.parameters) ≡ true }
+    ensures typed { IfOk result (λ typed. AreTypedParameters scope.old.text (parameters_listed (parameters_view head.now.parameters)) typed.items) }
     ensures scope { OnOk result (scope.new ≡ after_parameters scope.old main (parameters_listed (parameters_view head.now.parameters))) }
 {
     let mut parameters = Vec::new(alloc);
@@ -95,7 +95,7 @@ fn function_of(
     head: &Head,
     parts: &[statement::Part],
 ) -> Result<Function, AllocError>
-    requires named { is_named (parameters_view head.now.parameters) ≡ true }
+    requires named { all_named (parameters_view head.now.parameters) ≡ true }
     requires faults { function_faults scope.old (head_view head.now) (parts_view parts.now) ≡ [] }
     ensures typed { IfOk result (λ typed. IsFunction scope.old (head_view head.now) (parts_view parts.now) (pure_function typed)) }
     ensures scope { OnOk result (scope.new ≡ scope.old) }
@@ -217,10 +217,10 @@ pub fn check(alloc: Global, text: &[u8], tree: Tree) -> Result<CProgram, SourceF
     requires externals { AreExternals (tree_view tree) }
     ensures program { IfOk result (λ program. IsProgram text.now (tree_view tree) (pure_program program)) }
     ensures none { IfOk result (λ program. faults text.now (tree_view tree) ≡ []) }
-    ensures fault { IfErr result (λ found. (found ≡ no_memory) ⊎ IsFirstIn text.now (faults text.now (tree_view tree)) found) }
-    ensures only { faults text.now (tree_view tree) ≡ [] → IfErr result (λ fault. fault ≡ no_memory) }
+    ensures fault { IfErr result (λ found. (found ≡ no_memory_fault) ⊎ IsFirstIn text.now (faults text.now (tree_view tree)) found) }
+    ensures only { faults text.now (tree_view tree) ≡ [] → IfErr result (λ fault. fault ≡ no_memory_fault) }
     ensures only_fault { (first : SourceFault) → IsFirstIn text.now (faults text.now (tree_view tree)) first
-        → MatchResult result (λ _. ⊥) (λ fault. (fault ≡ no_memory) ⊎ (fault ≡ first)) }
+        → MatchResult result (λ _. ⊥) (λ fault. (fault ≡ no_memory_fault) ⊎ (fault ≡ first)) }
 {
     let first = first_fault(alloc, text, &tree)?;
     match first {
@@ -236,10 +236,10 @@ pub fn check(alloc: Global, text: &[u8], tree: Tree) -> Result<CProgram, SourceF
 pub fn read_program(alloc: Global, text: &[u8]) -> Result<CProgram, SourceFault>
     requires { length text.now ≤ MOST_BYTES }
     ensures program { IfOk result (λ program. IsProgramOf text.now (pure_program program)) }
-    ensures fault { IfErr result (λ fault. (fault ≡ no_memory) ⊎ IsFaultOf text.now fault) }
-    ensures only { (program : pure.Program) → IsProgramOf text.now program → IfErr result (λ fault. fault ≡ no_memory) }
+    ensures fault { IfErr result (λ fault. (fault ≡ no_memory_fault) ⊎ IsFaultOf text.now fault) }
+    ensures only { (program : pure.Program) → IsProgramOf text.now program → IfErr result (λ fault. fault ≡ no_memory_fault) }
     ensures only_fault { (first : SourceFault) → IsFaultOf text.now first
-        → MatchResult result (λ _. ⊥) (λ fault. (fault ≡ no_memory) ⊎ (fault ≡ first)) }
+        → MatchResult result (λ _. ⊥) (λ fault. (fault ≡ no_memory_fault) ⊎ (fault ≡ first)) }
 {
     let tokens = tokens(alloc, text)?;
     let tree = parse(alloc, text, &tokens)?;

@@ -5,11 +5,11 @@ use Rattle.std.proofs.lemmas.List.{take-append-le, take_all}
 use Rattle.run_model.specs.declared.event.Event.{Event}
 use Rattle.run_model.proofs.StartLemmas.{slice_get-below, slice_get-last, slice_get-push}
 use Rattle.causes.specs.Before.{IsBefore, IsUpTo}
-use Rattle.causes.specs.Clocks.{AreClocks, AreNumbers, IsClock, number_at}
-use Rattle.causes.specs.Positions.{count_of}
+use Rattle.causes.specs.Clocks.{AreClocks, AreNumbers, IsClock, number_of_event}
+use Rattle.causes.specs.Positions.{next_number}
 use Rattle.causes.specs.Beside.{AreTables}
-use Rattle.causes.specs.Seen.{IsSeen}
-use Rattle.causes.specs.declared.causes.Seen.{Seen}
+use Rattle.causes.specs.inside.Seen.{IsSeenByCauses}
+use Rattle.causes.specs.declared.causes.CausesSoFar.{CausesSoFar}
 use Rattle.causes.proofs.NewClocks.{clocks-push, front_number}
 use Rattle.causes.proofs.Paths.{before-less, before-within}
 
@@ -19,13 +19,13 @@ below_some (x ∷ xs) zero h = (x, refl)
 below_some (x ∷ xs) (suc k) h = below_some xs k (omega (arith, h))
 
 -- one comparison tells
-pub before_from : (n : ℕ) (events : List Event) (t u : ℕ) (event : Event) (clock : List ℕ) → IsClock n events u clock → slice_get events t ≡ Some event → t < u → number_at events event.rank t < get_or clock event.rank 0 → IsBefore n events t u
+pub before_from : (n : ℕ) (events : List Event) (t u : ℕ) (event : Event) (clock : List ℕ) → IsClock n events u clock → slice_get events t ≡ Some event → t < u → number_of_event events event.rank t < get_or clock event.rank 0 → IsBefore n events t u
 before_from n events t u event clock is there less above = elim ((is.tells t event (omega (arith, less)) there).0 above) [
   | inl same ↦ absurd (omega (arith, same, less))
   | inr before ↦ before
 ]
 
-pub above_from : (n : ℕ) (events : List Event) (t u : ℕ) (event : Event) (clock : List ℕ) → IsClock n events u clock → slice_get events t ≡ Some event → IsBefore n events t u → number_at events event.rank t < get_or clock event.rank 0
+pub above_from : (n : ℕ) (events : List Event) (t u : ℕ) (event : Event) (clock : List ℕ) → IsClock n events u clock → slice_get events t ≡ Some event → IsBefore n events t u → number_of_event events event.rank t < get_or clock event.rank 0
 above_from n events t u event clock is there before =
     (let less = before-less n events t u before in (is.tells t event (omega (arith, less)) there).1 (inr before))
 
@@ -47,7 +47,7 @@ get_or-front (x ∷ xs) ys zero d h = refl
 get_or-front (x ∷ xs) ys (suc k) d h = get_or-front xs ys k d (omega (arith, h))
 
 -- one more number
-pub numbers-push : (events : List Event) (event : Event) (numbers : List ℕ) (number : ℕ) → number ≡ count_of event.rank events → AreNumbers events numbers → AreNumbers (events ++ event ∷ []) (numbers ++ number ∷ [])
+pub numbers-push : (events : List Event) (event : Event) (numbers : List ℕ) (number : ℕ) → number ≡ next_number event.rank events → AreNumbers events numbers → AreNumbers (events ++ event ∷ []) (numbers ++ number ∷ [])
 numbers-push events event numbers number is are =
     let many = are.as_many in
     record {
@@ -58,11 +58,11 @@ numbers-push events event numbers number is are =
             let same : event ≡ e = cc in
             let here : length numbers ≡ t = omega (arith, at, many) in
             let front : take (length events) (events ++ event ∷ []) ≡ events = take-append-le (length events) events (event ∷ []) (omega arith) ∙ take_all (length events) events (omega arith) in
-            let value : get_or (numbers ++ number ∷ []) (length numbers) 0 ≡ number_at (events ++ event ∷ []) event.rank (length events) =
-            get_some (numbers ++ number ∷ []) (length numbers) 0 number (slice_get-last numbers number) ∙ is ∙ ap (count_of event.rank) (sym front) in
-            let P : ℕ → Type 0 = λ k. get_or (numbers ++ number ∷ []) k 0 ≡ number_at (events ++ event ∷ []) event.rank (length events) in
-            let Q : ℕ → Type 0 = λ k. get_or (numbers ++ number ∷ []) t 0 ≡ number_at (events ++ event ∷ []) event.rank k in
-            let R : Event → Type 0 = λ x. get_or (numbers ++ number ∷ []) t 0 ≡ number_at (events ++ event ∷ []) x.rank t in
+            let value : get_or (numbers ++ number ∷ []) (length numbers) 0 ≡ number_of_event (events ++ event ∷ []) event.rank (length events) =
+            get_some (numbers ++ number ∷ []) (length numbers) 0 number (slice_get-last numbers number) ∙ is ∙ ap (next_number event.rank) (sym front) in
+            let P : ℕ → Type 0 = λ k. get_or (numbers ++ number ∷ []) k 0 ≡ number_of_event (events ++ event ∷ []) event.rank (length events) in
+            let Q : ℕ → Type 0 = λ k. get_or (numbers ++ number ∷ []) t 0 ≡ number_of_event (events ++ event ∷ []) event.rank k in
+            let R : Event → Type 0 = λ x. get_or (numbers ++ number ∷ []) t 0 ≡ number_of_event (events ++ event ∷ []) x.rank t in
             subst R same (subst Q (sym at) (subst P here value)))
         | inr was ↦ (
             let low = slice_get-below events t e was in
@@ -73,7 +73,7 @@ numbers-push events event numbers number is are =
     }
 
 -- all that is kept, with one more event
-pub seen_more : (n : ℕ) (before : List Event) (event : Event) (old new : Seen) (clock : List ℕ) (number : ℕ) → IsSeen n before old → AreTables (before ++ event ∷ []) new.tables → new.tables.ranks ≡ old.tables.ranks → new.clocks.items ≡ old.clocks.items ++ clock ∷ [] → IsClock n (before ++ event ∷ []) (length before) clock → new.numbers.items ≡ old.numbers.items ++ number ∷ [] → number ≡ count_of event.rank before → IsSeen n (before ++ event ∷ []) new
+pub seen_more : (n : ℕ) (before : List Event) (event : Event) (old new : CausesSoFar) (clock : List ℕ) (number : ℕ) → IsSeenByCauses n before old → AreTables (before ++ event ∷ []) new.tables → new.tables.ranks ≡ old.tables.ranks → new.clocks.items ≡ old.clocks.items ++ clock ∷ [] → IsClock n (before ++ event ∷ []) (length before) clock → new.numbers.items ≡ old.numbers.items ++ number ∷ [] → number ≡ next_number event.rank before → IsSeenByCauses n (before ++ event ∷ []) new
 seen_more n before event old new clock number seen tables ranks clocks is numbers counted =
     let C : List (List ℕ) → Type 0 = λ l. AreClocks n (before ++ event ∷ []) l in
     let N : List ℕ → Type 0 = λ l. AreNumbers (before ++ event ∷ []) l in
@@ -85,7 +85,7 @@ seen_more n before event old new clock number seen tables ranks clocks is number
     }
 
 -- the comparison of a number with a count
-pub decided : (n : ℕ) (events : List Event) (t u count : ℕ) (event : Event) (number : ℕ) → t < u → number ≡ number_at events event.rank t → ((number_at events event.rank t < count) ↔ IsUpTo n events t u) → IsTrue (nat_lt number count) ↔ IsBefore n events t u
+pub decided : (n : ℕ) (events : List Event) (t u count : ℕ) (event : Event) (number : ℕ) → t < u → number ≡ number_of_event events event.rank t → ((number_of_event events event.rank t < count) ↔ IsUpTo n events t u) → IsTrue (nat_lt number count) ↔ IsBefore n events t u
 decided n events t u count event number less is tells = (
   λ h. elim (tells.0 (let low = ltb-true number count h in omega (arith, low, is))) [
     | inl same ↦ absurd (omega (arith, same, less))

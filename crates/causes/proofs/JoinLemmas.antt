@@ -3,7 +3,7 @@ use Rattle.std.proofs.Common.{◌≡◌, ◌≢◌, ◌≤◌, ◌<◌, ◌+◌,
 use Rattle.std.proofs.lemmas.Bool.{ltb-true}
 use Rattle.std.proofs.lemmas.List.{take_all}
 use Rattle.std.proofs.lemmas.Option.{slice_get-get_or}
-use Rattle.causes.specs.Joins.{AreGreater, IsAbove, IsJoinOfAll}
+use Rattle.causes.specs.inside.Joins.{AreGreater, HasGreaterClock, IsJoinOfAll}
 
 -- joined at the places below one
 pub record IsJoinedTo (i : ℕ) (old other mine : List ℕ) : Type 0 where
@@ -106,11 +106,11 @@ join_nothing old clocks =
       each = λ k clock among found rank. absurd among;
     }
 
-above_first : (clocks : List (List ℕ)) (at : ℕ) (places : List ℕ) (rank count : ℕ) → IsAbove clocks (at ∷ []) rank count → IsAbove clocks (at ∷ places) rank count
+above_first : (clocks : List (List ℕ)) (at : ℕ) (places : List ℕ) (rank count : ℕ) → HasGreaterClock clocks (at ∷ []) rank count → HasGreaterClock clocks (at ∷ places) rank count
 above_first clocks at places rank count is =
     record { at = is.at; clock = is.clock; placed = elim is.placed [ inl e ↦ inl e | inr never ↦ absurd never ]; there = is.there; above = is.above }
 
-above_later : (clocks : List (List ℕ)) (at : ℕ) (places : List ℕ) (rank count : ℕ) → IsAbove clocks places rank count → IsAbove clocks (at ∷ places) rank count
+above_later : (clocks : List (List ℕ)) (at : ℕ) (places : List ℕ) (rank count : ℕ) → HasGreaterClock clocks places rank count → HasGreaterClock clocks (at ∷ places) rank count
 above_later clocks at places rank count is =
     record { at = is.at; clock = is.clock; placed = inr is.placed; there = is.there; above = is.above }
 

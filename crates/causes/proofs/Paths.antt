@@ -3,7 +3,7 @@ use Rattle.std.proofs.Common.{◌≡◌, ◌≤◌, ◌<◌, ℕ, zero, suc, Lis
 use Rattle.std.proofs.lemmas.List.{take-append-le}
 use Rattle.run_model.specs.declared.event.Event.{Event}
 use Rattle.run_model.proofs.StartLemmas.{slice_get-append, slice_get-below}
-use Rattle.causes.specs.Before.{IsBefore, IsDirectlyBefore, IsStep}
+use Rattle.causes.specs.Before.{IsBefore, IsDirectlyBefore, PrecedesDirectly}
 use Rattle.causes.specs.Before.IsBefore.{step, path}
 
 length-taken : {A : Type 0} (k : ℕ) (xs : List A) → length (take k xs) ≤ k
@@ -11,13 +11,13 @@ length-taken zero xs = omega arith
 length-taken (suc k) [] = omega arith
 length-taken (suc k) (x ∷ xs) = (let rest = length-taken k xs in omega (arith, rest))
 
-pub step-less : (n : ℕ) (events : List Event) (t u : ℕ) → IsStep n events t u → t < u
+pub step-less : (n : ℕ) (events : List Event) (t u : ℕ) → PrecedesDirectly n events t u → t < u
 step-less n events t u is =
     let less = is.direct.less in
     let long = length-taken u events in
     omega (arith, less, long)
 
-pub step-within : (n : ℕ) (events : List Event) (t u : ℕ) → IsStep n events t u → u < length events
+pub step-within : (n : ℕ) (events : List Event) (t u : ℕ) → PrecedesDirectly n events t u → u < length events
 step-within n events t u is = slice_get-below events u is.event is.at
 
 pub before-less : (n : ℕ) (events : List Event) (t u : ℕ) → IsBefore n events t u → t < u
@@ -32,7 +32,7 @@ before-within n events _ _ (step t u is) = step-within n events t u is
 before-within n events _ _ (path s t u first is) = step-within n events t u is
 
 -- a step stays one, and a step of before is one there
-pub step-kept : (n : ℕ) (events ys : List Event) (t u : ℕ) → IsStep n events t u → IsStep n (events ++ ys) t u
+pub step-kept : (n : ℕ) (events ys : List Event) (t u : ℕ) → PrecedesDirectly n events t u → PrecedesDirectly n (events ++ ys) t u
 step-kept n events ys t u is =
     let low = step-within n events t u is in
     let same : take u events ≡ take u (events ++ ys) = sym (take-append-le u events ys (omega (arith, low))) in
@@ -44,7 +44,7 @@ get_front [] ys k x low h = absurd (omega (arith, low))
 get_front (y ∷ xs) ys zero x low h = h
 get_front (y ∷ xs) ys (suc k) x low h = get_front xs ys k x (omega (arith, low)) h
 
-pub step-back : (n : ℕ) (events ys : List Event) (t u : ℕ) → u < length events → IsStep n (events ++ ys) t u → IsStep n events t u
+pub step-back : (n : ℕ) (events ys : List Event) (t u : ℕ) → u < length events → PrecedesDirectly n (events ++ ys) t u → PrecedesDirectly n events t u
 step-back n events ys t u low is =
     let same : take u (events ++ ys) ≡ take u events = take-append-le u events ys (omega (arith, low)) in
     let P : List Event → Type 0 = λ l. IsDirectlyBefore n l is.event t in

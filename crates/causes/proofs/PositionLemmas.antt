@@ -2,11 +2,10 @@
 use Rattle.std.proofs.Common.{◌≡◌, ◌≤◌, ◌<◌, ◌+◌, ◌-◌, ℕ, zero, suc, List, [], ◌∷◌, ◌++◌, ◌==◌, Bool, Some, true, false, inl, inr, refl, ap, sym, ◌∙◌, arith, append-nil, drop, length, length-append, ltb, nat_lt, subst, take, slice_get, get_or, if◌then◌else◌}
 use Rattle.std.proofs.lemmas.Bool.{eq-eqb, le-ltb, lt-ltb}
 use Rattle.std.specs.List.Sorted.{IsNonDecreasingBy, IsPartitionPoint}
-use Rattle.mpi_call.specs.Lists.{IsIn, Rises}
+use Rattle.mpi_call.specs.Lists.{IsIn, Rises, count_below}
 use Rattle.run_model.specs.declared.event.Event.{Event}
 use Rattle.run_model.proofs.Views.{test_cases}
-use Rattle.causes.specs.Positions.{count_of, is_of, positions}
-use Rattle.causes.specs.Tables.{count_below}
+use Rattle.causes.specs.Positions.{next_number, is_event_of, positions}
 
 pub positions-append : (test : Event → Bool) (at : ℕ) (xs ys : List Event) → positions test at (xs ++ ys) ≡ positions test at xs ++ positions test (at + length xs) ys
 positions-append test at [] ys = ap (λ k. positions test k ys) (omega arith)
@@ -36,11 +35,11 @@ take-drop (suc k) [] = refl
 take-drop (suc k) (x ∷ xs) = ap (λ l. x ∷ l) (take-drop k xs)
 
 -- the events up to a place are no more than all
-pub count-take : (rank k : ℕ) (xs : List Event) → count_of rank (take k xs) ≤ count_of rank xs
+pub count-take : (rank k : ℕ) (xs : List Event) → next_number rank (take k xs) ≤ next_number rank xs
 count-take rank k xs =
-    let parts = ap length (positions-append (is_of rank) 0 (take k xs) (drop k xs)) in
-    let all = ap (λ l. length (positions (is_of rank) 0 l)) (take-drop k xs) in
-    let sizes = length-append (positions (is_of rank) 0 (take k xs)) (positions (is_of rank) (0 + length (take k xs)) (drop k xs)) in
+    let parts = ap length (positions-append (is_event_of rank) 0 (take k xs) (drop k xs)) in
+    let all = ap (λ l. length (positions (is_event_of rank) 0 l)) (take-drop k xs) in
+    let sizes = length-append (positions (is_event_of rank) 0 (take k xs)) (positions (is_event_of rank) (0 + length (take k xs)) (drop k xs)) in
     omega (arith, parts, all, sizes)
 
 take-take : {A : Type 0} (j k : ℕ) (xs : List A) → j ≤ k → take j (take k xs) ≡ take j xs
@@ -49,21 +48,21 @@ take-take (suc j) zero xs h = absurd (omega (arith, h))
 take-take (suc j) (suc k) [] h = refl
 take-take (suc j) (suc k) (x ∷ xs) h = ap (λ l. x ∷ l) (take-take j k xs (omega (arith, h)))
 
-pub count-less : (rank j k : ℕ) (xs : List Event) → j ≤ k → count_of rank (take j xs) ≤ count_of rank (take k xs)
+pub count-less : (rank j k : ℕ) (xs : List Event) → j ≤ k → next_number rank (take j xs) ≤ next_number rank (take k xs)
 count-less rank j k xs h =
-    let same = ap (count_of rank) (take-take j k xs h) in
+    let same = ap (next_number rank) (take-take j k xs h) in
     let less = count-take rank j (take k xs) in
     omega (arith, same, less)
 
 -- one more event of the rank, and of another
-pub count-own : (xs : List Event) (x : Event) → count_of x.rank (xs ++ x ∷ []) ≡ count_of x.rank xs + 1
+pub count-own : (xs : List Event) (x : Event) → next_number x.rank (xs ++ x ∷ []) ≡ next_number x.rank xs + 1
 count-own xs x =
     let h : (x.rank == x.rank) ≡ true = eq-eqb x.rank x.rank refl in
-    let more = positions-push (is_of x.rank) xs x ∙ rw h refl in
-    ap length more ∙ length-append (positions (is_of x.rank) 0 xs) (length xs ∷ [])
+    let more = positions-push (is_event_of x.rank) xs x ∙ rw h refl in
+    ap length more ∙ length-append (positions (is_event_of x.rank) 0 xs) (length xs ∷ [])
 
-pub count-other : (xs : List Event) (x : Event) (rank : ℕ) → (x.rank == rank) ≡ false → count_of rank (xs ++ x ∷ []) ≡ count_of rank xs
-count-other xs x rank h = ap length (positions-push (is_of rank) xs x ∙ rw h refl)
+pub count-other : (xs : List Event) (x : Event) (rank : ℕ) → (x.rank == rank) ≡ false → next_number rank (xs ++ x ∷ []) ≡ next_number rank xs
+count-other xs x rank h = ap length (positions-push (is_event_of rank) xs x ∙ rw h refl)
 
 -- an event that passes the test has its position in the list, and only such a one
 pub record IsPlaced (test : Event → Bool) (events : List Event) (at : ℕ) : Type 0 where

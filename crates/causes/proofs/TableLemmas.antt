@@ -9,7 +9,7 @@ use Rattle.mpi_call.specs.declared.reply.Item.{Item}
 use Rattle.mpi_call.specs.declared.reply.Reply.{Reply}
 use Rattle.mpi_call.specs.declared.reply.Reply.TheVariants.{Done, Took, NotYet, Peeked, Stopped}
 use Rattle.run_model.specs.declared.event.Event.{Event}
-use Rattle.run_model.specs.Communicators.{is_on, known_after, learned, made_in_got, made_in_items, members_in, or_members, or_none as or_no_members}
+use Rattle.run_model.specs.Communicators.{is_on, known_after, learned, made_in_got, made_in_items, members_for_rank, or_members, or_none as or_no_members}
 use Rattle.run_model.specs.Lists.{world}
 use Rattle.run_model.specs.Views.{View, is_start, view_of}
 use Rattle.run_model.proofs.Enters.{known_after-append}
@@ -17,8 +17,8 @@ use Rattle.run_model.proofs.Views.{test_cases, view_of-other, view_of-own}
 use Rattle.causes.specs.declared.key.Key.{Key}
 use Rattle.causes.specs.declared.key.TheConstants.{MATES}
 use Rattle.causes.specs.Keys.{enters_key, events_key, mates_key, same_key, starts_key}
-use Rattle.causes.specs.Positions.{is_enter_of, is_mate_of, is_of, is_start_of, is_there, positions}
-use Rattle.causes.specs.Tables.{Adds, IsKnownTable, IsPlaceTable, Learns, adds_enter, adds_enter_by, adds_mate, adds_mate_by, adds_start, places_at}
+use Rattle.causes.specs.Positions.{is_enter_of, is_mate_of, is_event_of, is_start_of, is_at_position, positions}
+use Rattle.causes.specs.Tables.{AddsPosition, IsKnownTable, IsPlaceTable, Learns, adds_enter, adds_enter_by, adds_mate, adds_mate_by, adds_start, positions_of_key}
 use Rattle.causes.proofs.JoinLemmas.{tail_is}
 use Rattle.causes.proofs.PositionLemmas.{positions-push}
 
@@ -31,7 +31,7 @@ and-true true = refl
 and-true false = refl
 
 -- nothing is added for a key of another kind
-skipped : (test : Key → Bool) (at : ℕ) (old new : List (Key × List ℕ)) (key : Key) → Adds test at old new → test key ≡ false → places_at new key ≡ places_at old key
+skipped : (test : Key → Bool) (at : ℕ) (old new : List (Key × List ℕ)) (key : Key) → AddsPosition test at old new → test key ≡ false → positions_of_key new key ≡ positions_of_key old key
 skipped test at old new key adds apart = adds key ∙ rw apart refl
 
 no_mate : (mate : Option ℕ) (key : Key) → (MATES == key.kind) ≡ false → adds_mate_by mate key ≡ false
@@ -61,19 +61,19 @@ enter_is rank (Abort code) other comm = refl
 enter_is rank (Trap fault) other comm = refl
 enter_is rank End other comm = refl
 
-mate_is : (mate : Option ℕ) (at : ℕ) → adds_mate_by mate (mates_key at) ≡ is_there mate at
+mate_is : (mate : Option ℕ) (at : ℕ) → adds_mate_by mate (mates_key at) ≡ is_at_position mate at
 mate_is None at = refl
 mate_is (Some other) at = and-true (other == at)
 
 -- what is added for a key, where its test says as much as that of the events
-added : (test : Key → Bool) (passes : Event → Bool) (events : List Event) (event : Event) (old new : List (Key × List ℕ)) (key : Key) → Adds test (length events) old new → test key ≡ passes event → places_at old key ≡ positions passes 0 events → places_at new key ≡ positions passes 0 (events ++ event ∷ [])
+added : (test : Key → Bool) (passes : Event → Bool) (events : List Event) (event : Event) (old new : List (Key × List ℕ)) (key : Key) → AddsPosition test (length events) old new → test key ≡ passes event → positions_of_key old key ≡ positions passes 0 events → positions_of_key new key ≡ positions passes 0 (events ++ event ∷ [])
 added test passes events event old new key adds same is =
     adds key
     ∙ rw same (ap (λ (l : List ℕ). if passes event then l ++ length events ∷ [] else l) is)
     ∙ sym (positions-push passes events event)
 
 -- the places of one more event
-pub placed : (events : List Event) (event : Event) (old first second third new : List (Key × List ℕ)) → Adds (same_key (events_key event.rank)) (length events) old first → Adds (adds_start event) (length events) first second → Adds (adds_enter event) (length events) second third → Adds (adds_mate event) (length events) third new → IsPlaceTable events old → IsPlaceTable (events ++ event ∷ []) new
+pub placed : (events : List Event) (event : Event) (old first second third new : List (Key × List ℕ)) → AddsPosition (same_key (events_key event.rank)) (length events) old first → AddsPosition (adds_start event) (length events) first second → AddsPosition (adds_enter event) (length events) second third → AddsPosition (adds_mate event) (length events) third new → IsPlaceTable events old → IsPlaceTable (events ++ event ∷ []) new
 placed events event old first second third new a b c d is =
     let at : ℕ = length events in
     let start : Bool = is_start (event.call, event.reply) in
@@ -83,7 +83,7 @@ placed events event old first second third new a b c d is =
           skipped (adds_mate event) at third new key d (no_mate event.mate key refl)
           ∙ skipped (adds_enter event) at second third key c (enter_kept event key (λ comm. refl))
           ∙ skipped (adds_start event) at first second key b (and-false start)
-          ∙ added (same_key (events_key event.rank)) (is_of rank) events event old first key a refl (is.own rank);
+          ∙ added (same_key (events_key event.rank)) (is_event_of rank) events event old first key a refl (is.own rank);
       starts = λ rank.
           let key : Key = starts_key rank in
           skipped (adds_mate event) at third new key d (no_mate event.mate key refl)
@@ -221,7 +221,7 @@ stays_known : (comm : ℕ) (members : List ℕ) (own : View) → known_after com
 stays_known comm members [] = refl
 stays_known comm members ((call, reply) ∷ own) = stays_known comm members own
 
-pub members-world : (n : ℕ) (own : View) → world n 0 ≡ members_in n own 0
+pub members-world : (n : ℕ) (own : View) → world n 0 ≡ members_for_rank n own 0
 members-world n own = sym (ap or_no_members (stays_known 0 (world n 0) own))
 
 pub learns_more : (rank : ℕ) (rest : List Item) (old middle new : List (Key × List ℕ)) (item : Item) → 1 ≤ length rest → item ≡ get_or rest 0 item → Learns rank (λ comm. made_in_got comm item.got) old middle → Learns rank (λ comm. made_in_items comm (take (length rest - 1) (drop 1 rest))) middle new → Learns rank (λ comm. made_in_items comm rest) old new
@@ -232,11 +232,11 @@ learns_more rank (x ∷ xs) old middle new item long is first second =
     learns_both rank (λ comm. made_in_got comm x.got) (λ comm. made_in_items comm xs) old middle new (subst Q is first) (subst P (tail_is x xs) second)
 
 -- the places of one more event, at the position that comes next
-pub placed_at : (events : List Event) (event : Event) (at : ℕ) (key : Key) (old first second third new : List (Key × List ℕ)) → key ≡ events_key event.rank → at ≡ length events → Adds (same_key key) at old first → Adds (adds_start event) at first second → Adds (adds_enter event) at second third → Adds (adds_mate event) at third new → IsPlaceTable events old → IsPlaceTable (events ++ event ∷ []) new
+pub placed_at : (events : List Event) (event : Event) (at : ℕ) (key : Key) (old first second third new : List (Key × List ℕ)) → key ≡ events_key event.rank → at ≡ length events → AddsPosition (same_key key) at old first → AddsPosition (adds_start event) at first second → AddsPosition (adds_enter event) at second third → AddsPosition (adds_mate event) at third new → IsPlaceTable events old → IsPlaceTable (events ++ event ∷ []) new
 placed_at events event at key old first second third new own is a b c d table =
-    let K : Key → Type 0 = λ k. Adds (same_key k) at old first in
-    let A : ℕ → Type 0 = λ n. Adds (same_key (events_key event.rank)) n old first in
-    let B : ℕ → Type 0 = λ n. Adds (adds_start event) n first second in
-    let C : ℕ → Type 0 = λ n. Adds (adds_enter event) n second third in
-    let D : ℕ → Type 0 = λ n. Adds (adds_mate event) n third new in
+    let K : Key → Type 0 = λ k. AddsPosition (same_key k) at old first in
+    let A : ℕ → Type 0 = λ n. AddsPosition (same_key (events_key event.rank)) n old first in
+    let B : ℕ → Type 0 = λ n. AddsPosition (adds_start event) n first second in
+    let C : ℕ → Type 0 = λ n. AddsPosition (adds_enter event) n second third in
+    let D : ℕ → Type 0 = λ n. AddsPosition (adds_mate event) n third new in
     placed events event old first second third new (subst A is (subst K own a)) (subst B is b) (subst C is c) (subst D is d) table

@@ -4,7 +4,7 @@ use Rattle.std.proofs.lemmas.Bool.{and_parts, lt-ltb, ltb-true}
 use Rattle.run_model.specs.declared.event.Event.{Event}
 use Rattle.run_model.proofs.Views.{option_cases}
 use Rattle.causes.specs.Before.{IsBefore}
-use Rattle.causes.specs.Clocks.{AreClocks, AreNumbers, Observed, Tells, comes_before, is_in_clock, number_at}
+use Rattle.causes.specs.Clocks.{AreClocks, AreNumbers, Observed, TellsBefore, comes_before, is_in_clock, number_of_event}
 use Rattle.causes.proofs.Deciding.{above_from, before_from, below_some}
 use Rattle.causes.proofs.Paths.{before-less, before-within}
 
@@ -13,7 +13,7 @@ told : (seen : Observed) (t u : ℕ) (clock : List ℕ) (event : Event) → AreC
     → (is_in_clock (slice_get seen.clocks u) (slice_get seen.events t) (get_or seen.numbers t 0) ≡ true) ↔ IsBefore seen.ranks seen.events t u
 told seen t u clock event clocks numbers at there less =
     let is = clocks.each u clock at in
-    let number : get_or seen.numbers t 0 ≡ number_at seen.events event.rank t = numbers.each t event there in
+    let number : get_or seen.numbers t 0 ≡ number_of_event seen.events event.rank t = numbers.each t event there in
     rw (at, there) (
       λ h. (
           let low = ltb-true (get_or seen.numbers t 0) (get_or clock event.rank 0) h in
@@ -61,7 +61,7 @@ told_before seen t u clocks numbers before =
     rw yes rest
 
 pub clocks_tell : (seen : Observed) → AreClocks seen.ranks seen.events seen.clocks → AreNumbers seen.events seen.numbers
-    → Tells (comes_before seen) seen.ranks seen.events
+    → TellsBefore (comes_before seen) seen.ranks seen.events
 clocks_tell seen clocks numbers t u = (told_true seen t u clocks numbers, told_before seen t u clocks numbers)
 
 -- a test with the same meaning is the same test

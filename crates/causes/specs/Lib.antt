@@ -4,6 +4,5 @@ pub mod Before
 pub mod Keys
 pub mod Tables
 pub mod Beside
-pub mod Joins
 pub mod Clocks
-pub mod Seen
+pub mod inside

@@ -1,5 +1,6 @@
 -- Positions of events: of a rank's starts by number, of its Enters of an instance, of the other start of a pair.
 use Rattle.std.specs.Prelude.{ℕ, List, [], ◌∷◌, ◌++◌, ◌+◌, Option, Some, None, Bool, false, ◌&&◌, ◌==◌, if◌then◌else◌, length, slice_get, take}
+use Rattle.std.specs.Option.{option_to_list}
 use Rattle.run_model.specs.declared.event.Event.{Event}
 use Rattle.run_model.specs.Communicators.{is_on}
 use Rattle.run_model.specs.Views.{is_start}
@@ -10,8 +11,8 @@ positions test at [] = []
 positions test at (event ∷ events) = if test event then at ∷ positions test (at + 1) events else positions test (at + 1) events
 
 -- an event of the rank
-abbrev pub is_of : ℕ → Event → Bool
-is_of rank event = event.rank == rank
+abbrev pub is_event_of : ℕ → Event → Bool
+is_event_of rank event = event.rank == rank
 
 -- a start of the rank
 abbrev pub is_start_of : ℕ → Event → Bool
@@ -22,17 +23,17 @@ abbrev pub is_enter_of : ℕ → ℕ → Event → Bool
 is_enter_of rank comm event = is_start (event.call, event.reply) && (is_on comm event.call && (event.rank == rank))
 
 -- the position is this one
-abbrev pub is_there : Option ℕ → ℕ → Bool
-is_there None at = false
-is_there (Some other) at = other == at
+abbrev pub is_at_position : Option ℕ → ℕ → Bool
+is_at_position None at = false
+is_at_position (Some other) at = other == at
 
 -- an event that is paired with the earlier start at a position
 abbrev pub is_mate_of : ℕ → Event → Bool
-is_mate_of at event = is_there event.mate at
+is_mate_of at event = is_at_position event.mate at
 
 -- the number of an event of the rank among its events, by those before it
-abbrev pub count_of : ℕ → List Event → ℕ
-count_of rank before = length (positions (is_of rank) 0 before)
+abbrev pub next_number : ℕ → List Event → ℕ
+next_number rank before = length (positions (is_event_of rank) 0 before)
 
 -- the position of a rank's start with this number
 abbrev pub start_position : List Event → ℕ → ℕ → Option ℕ
@@ -43,19 +44,14 @@ abbrev pub enter_position : List Event → ℕ → ℕ → ℕ → Option ℕ
 enter_position events rank comm instance = slice_get (positions (is_enter_of rank comm) 0 events) instance
 
 -- the instance of a rank's Enter at a position: how many of its Enters on the communicator stand before it
-abbrev pub instance_at : List Event → ℕ → ℕ → ℕ → ℕ
-instance_at events rank comm at = length (positions (is_enter_of rank comm) 0 (take at events))
-
--- one position or none, as a list
-abbrev pub listed : Option ℕ → List ℕ
-listed None = []
-listed (Some at) = at ∷ []
+abbrev pub enter_instance_at : List Event → ℕ → ℕ → ℕ → ℕ
+enter_instance_at events rank comm at = length (positions (is_enter_of rank comm) 0 (take at events))
 
 -- the mate that an event keeps
-abbrev pub mate_in : Option Event → List ℕ
-mate_in None = []
-mate_in (Some event) = listed event.mate
+abbrev pub mates_in : Option Event → List ℕ
+mates_in None = []
+mates_in (Some event) = option_to_list event.mate
 
 -- the other start of the pair of the start at a position, which the later one keeps as its mate
 abbrev pub mates_of : List Event → ℕ → List ℕ
-mates_of events at = mate_in (slice_get events at) ++ positions (is_mate_of at) 0 events
+mates_of events at = mates_in (slice_get events at) ++ positions (is_mate_of at) 0 events

@@ -1,5 +1,5 @@
 -- Tables beside the events: positions by keys, and the communicators that each rank knows.
-use Rattle.std.specs.Prelude.{◌≡◌, ℕ, suc, List, [], ◌∷◌, ◌++◌, Option, Some, None, Bool, false, ◌&&◌, ◌==◌, if◌then◌else◌, nat_lt}
+use Rattle.std.specs.Prelude.{◌≡◌, ℕ, List, [], ◌∷◌, ◌++◌, Option, Some, None, Bool, false, ◌&&◌, ◌==◌, if◌then◌else◌}
 use Rattle.std.specs.Map.{lookup}
 use Rattle.mpi_call.specs.declared.call.Call.{Call}
 use Rattle.mpi_call.specs.declared.call.Call.TheVariants.{Enter}
@@ -8,7 +8,7 @@ use Rattle.run_model.specs.Communicators.{known_after, or_members}
 use Rattle.run_model.specs.Views.{is_start, view_of}
 use Rattle.causes.specs.declared.key.Key.{Key}
 use Rattle.causes.specs.Keys.{enters_key, events_key, mates_key, same_key, starts_key}
-use Rattle.causes.specs.Positions.{is_enter_of, is_mate_of, is_of, is_start_of, positions}
+use Rattle.causes.specs.Positions.{is_enter_of, is_mate_of, is_event_of, is_start_of, positions}
 
 -- no positions where there is no list
 abbrev pub or_no_positions : Option (List ℕ) → List ℕ
@@ -16,19 +16,19 @@ or_no_positions None = []
 or_no_positions (Some places) = places
 
 -- the positions that a table has for a key
-abbrev pub places_at : List (Key × List ℕ) → Key → List ℕ
-places_at table key = or_no_positions (lookup (same_key key) table)
+abbrev pub positions_of_key : List (Key × List ℕ) → Key → List ℕ
+positions_of_key table key = or_no_positions (lookup (same_key key) table)
 
 -- one position more for the keys that pass a test, and none more for another
-abbrev pub Adds : (Key → Bool) → ℕ → List (Key × List ℕ) → List (Key × List ℕ) → Type 0
-Adds test at old new = (key : Key) → places_at new key ≡ (if test key then places_at old key ++ at ∷ [] else places_at old key)
+abbrev pub AddsPosition : (Key → Bool) → ℕ → List (Key × List ℕ) → List (Key × List ℕ) → Type 0
+AddsPosition test at old new = (key : Key) → positions_of_key new key ≡ (if test key then positions_of_key old key ++ at ∷ [] else positions_of_key old key)
 
 -- the positions of each rank's events, starts and Enters, and of the later starts of pairs
 pub record IsPlaceTable (events : List Event) (table : List (Key × List ℕ)) : Type 0 where
-  pub own : (rank : ℕ) → places_at table (events_key rank) ≡ positions (is_of rank) 0 events
-  pub starts : (rank : ℕ) → places_at table (starts_key rank) ≡ positions (is_start_of rank) 0 events
-  pub enters : (rank comm : ℕ) → places_at table (enters_key rank comm) ≡ positions (is_enter_of rank comm) 0 events
-  pub mates : (at : ℕ) → places_at table (mates_key at) ≡ positions (is_mate_of at) 0 events
+  pub own : (rank : ℕ) → positions_of_key table (events_key rank) ≡ positions (is_event_of rank) 0 events
+  pub starts : (rank : ℕ) → positions_of_key table (starts_key rank) ≡ positions (is_start_of rank) 0 events
+  pub enters : (rank comm : ℕ) → positions_of_key table (enters_key rank comm) ≡ positions (is_enter_of rank comm) 0 events
+  pub mates : (at : ℕ) → positions_of_key table (mates_key at) ≡ positions (is_mate_of at) 0 events
 
 -- the members of each communicator that a rank's replies made
 pub record IsKnownTable (events : List Event) (table : List (Key × List ℕ)) : Type 0 where
@@ -54,11 +54,6 @@ adds_mate_by (Some at) key = same_key (mates_key at) key
 
 abbrev pub adds_mate : Event → Key → Bool
 adds_mate event key = adds_mate_by event.mate key
-
--- how many positions stand before another
-abbrev pub count_below : ℕ → List ℕ → ℕ
-count_below at [] = 0
-count_below at (place ∷ places) = if nat_lt place at then suc (count_below at places) else count_below at places
 
 -- what is learned of a rank's communicators; the first members of a number stay
 abbrev pub Learns : ℕ → (ℕ → Option (List ℕ)) → List (Key × List ℕ) → List (Key × List ℕ) → Type 0

@@ -3,13 +3,13 @@ ghost use Rattle.std.specs.Prelude.{◌≡◌, ◌<◌, ◌≤◌, ◌+◌, ◌^
 ghost use Rattle.run_model.specs.declared.event.Event.{Event as EventSpec};
 ghost use Rattle.causes.specs.Before.{IsBefore, IsUpTo};
 ghost use Rattle.causes.specs.Beside.{AreTables};
-ghost use Rattle.causes.specs.Clocks.{AreClocks, AreOfRanks, IsClock, Tells, comes_before, number_at};
-ghost use Rattle.causes.specs.Seen.{IsSeen};
-ghost use Rattle.causes.specs.Positions.{count_of, is_of, is_start_of, positions};
+ghost use Rattle.causes.specs.Clocks.{AreClocks, AreOfRanks, IsClock, TellsBefore, comes_before, number_of_event};
+ghost use Rattle.causes.specs.inside.Seen.{IsSeenByCauses};
+ghost use Rattle.causes.specs.Positions.{next_number, is_event_of, is_start_of, positions};
 
 use crate::clock::Clock;
 use crate::key::{events_key, starts_key};
-use crate::places::Places;
+use crate::places::PositionTable;
 use crate::positions::Positions;
 use crate::rests::push_rests;
 use crate::tables::Tables;
@@ -26,7 +26,7 @@ pub struct Causes<'a> {
     /// The number of each event among its rank's events.
     numbers: Vec<u32>,
     /// Positions of events by keys.
-    places: Places,
+    places: PositionTable,
 }
 
 impl<'a> Model for Causes<'a> {
@@ -49,7 +49,7 @@ impl<'a> Causes<'a> {
         ensures ranks { IfOk result (λ causes. causes.ranks ≡ ranks) }
         ensures events { IfOk result (λ causes. causes.events ≡ events.now) }
     {
-        let mut seen = Seen::new(alloc, ranks)?;
+        let mut seen = CausesSoFar::new(alloc, ranks)?;
         for (at, event) in events.iter().enumerate() {
             seen.add(alloc, &events[..at], event)?;
         }
@@ -77,7 +77,7 @@ impl<'a> Causes<'a> {
 
     /// The test of the clocks tells which events are before which. The body does nothing: the clocks are kept so.
     pub fn tells(&self)
-        ensures { Tells (comes_before self.now) self.now.ranks self.now.events }
+        ensures { TellsBefore (comes_before self.now) self.now.ranks self.now.events }
     {
         let _ = &self.ranks;
     }
@@ -106,7 +106,7 @@ impl<'a> Causes<'a> {
 
     /// The positions of a rank's events, in order.
     pub fn own_events(&self, rank: u8) -> &[u32]
-        ensures { result.now ≡ positions (is_of rank) 0 self.now.events }
+        ensures { result.now ≡ positions (is_event_of rank) 0 self.now.events }
     {
         self.places.get(&events_key(rank))
     }
@@ -115,9 +115,9 @@ impl<'a> Causes<'a> {
     pub fn count(&self, u: u32, rank: u8) -> u32
         requires place { u < length self.now.events }
         requires rank { rank < self.now.ranks }
-        ensures few { result ≤ count_of rank (take (suc u) self.now.events) }
+        ensures few { result ≤ next_number rank (take (suc u) self.now.events) }
         ensures tells { (t : ℕ) (event : EventSpec) → t ≤ u → slice_get self.now.events t ≡ Some event → event.rank ≡ rank
-            → (number_at self.now.events rank t < result) ↔ IsUpTo self.now.ranks self.now.events t u }
+            → (number_of_event self.now.events rank t < result) ↔ IsUpTo self.now.ranks self.now.events t u }
     {
         self.clocks[u as usize].get(rank)
     }
@@ -125,18 +125,18 @@ impl<'a> Causes<'a> {
 
 /// The tables, clocks and numbers beside the events so far.
 #[derive(Drop)]
-struct Seen {
+struct CausesSoFar {
     tables: Tables,
     clocks: Vec<Clock>,
     numbers: Vec<u32>,
 }
 
-impl Seen {
+impl CausesSoFar {
     /// No events.
     fn new(alloc: Global, ranks: u8) -> Result<Self, AllocError>
-        ensures { IfOk result (λ seen. IsSeen ranks [] seen) }
+        ensures { IfOk result (λ seen. IsSeenByCauses ranks [] seen) }
     {
-        Ok(Seen {
+        Ok(CausesSoFar {
             tables: Tables::new(alloc, ranks)?,
             clocks: Vec::new(alloc),
             numbers: Vec::new(alloc),
@@ -145,10 +145,10 @@ impl Seen {
 
     /// Adds the event that comes next.
     fn add(&mut self, alloc: Global, before: &[Event], event: &Event) -> Result<(), AllocError>
-        requires seen { IsSeen self.old.tables.ranks before.now self.old }
+        requires seen { IsSeenByCauses self.old.tables.ranks before.now self.old }
         requires short { length before.now + 1 < 2 ^ 32 }
         requires rank { event.now.rank < self.old.tables.ranks }
-        ensures seen { OnOk result (IsSeen self.old.tables.ranks (before.now ++ event.now ∷ []) self.new) }
+        ensures seen { OnOk result (IsSeenByCauses self.old.tables.ranks (before.now ++ event.now ∷ []) self.new) }
     {
         let clock = clock_of(alloc, before, &self.tables, self.clocks.as_slice(), event)?;
         let number = number_of(&self.tables, before, event.rank);
@@ -162,7 +162,7 @@ impl Seen {
 fn number_of(tables: &Tables, before: &[Event], rank: u8) -> u32
     requires tables { AreTables before.now tables.now }
     requires short { length before.now < 2 ^ 32 }
-    ensures { result ≡ count_of rank before.now }
+    ensures { result ≡ next_number rank before.now }
 {
     tables.places.get(&events_key(rank)).len() as u32
 }

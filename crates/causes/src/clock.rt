@@ -1,6 +1,6 @@
 //! Vector clocks.
 ghost use Rattle.std.specs.Prelude.{◌≡◌, ◌<◌, ◌∷◌, [], IfOk, length, replicate, slice_index, slice_set};
-ghost use Rattle.causes.specs.Joins.{AreAsWide, AreGreater, IsJoinOfAll};
+ghost use Rattle.causes.specs.inside.Joins.{AreAsWide, AreGreater, IsJoinOfAll};
 
 use std::alloc::{AllocError, Global};
 use std::marker::Model;

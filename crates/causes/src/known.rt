@@ -18,11 +18,11 @@ use std::marker::Model;
 
 /// The members of the communicators that the ranks' replies made, by rank and number.
 #[derive(Drop)]
-pub struct Known {
+pub struct KnownMembers {
     lists: IndexMap<Key, Ranks>,
 }
 
-impl Model for Known {
+impl Model for KnownMembers {
     ghost use Rattle.std.specs.Prelude.{List, ℕ};
     ghost use Rattle.causes.specs.declared.key.Key.{Key};
 
@@ -31,12 +31,12 @@ impl Model for Known {
     ghost view = { λ s. s.lists.entries };
 }
 
-impl Known {
+impl KnownMembers {
     /// No communicators.
     pub fn new(alloc: Global) -> Self
         ensures { result ≡ [] }
     {
-        Known {
+        KnownMembers {
             lists: IndexMap::new(alloc),
         }
     }

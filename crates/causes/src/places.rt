@@ -1,10 +1,11 @@
 //! Positions of events by keys.
 ghost use Rattle.std.specs.List.Sorted.{IsNonDecreasingBy};
 ghost use Rattle.std.specs.Prelude.{◌≡◌, ◌++◌, ◌∷◌, ◌&&◌, [], ℕ, List, IfOk, OnOk, length};
+ghost use Rattle.mpi_call.specs.Lists.{count_below};
 ghost use Rattle.run_model.specs.declared.event.Event.{Event as EventSpec};
 ghost use Rattle.causes.specs.declared.key.Key.{Key as KeySpec};
 ghost use Rattle.causes.specs.Keys.{same_key};
-ghost use Rattle.causes.specs.Tables.{Adds, IsPlaceTable, adds_enter, adds_mate, adds_start, count_below, places_at};
+ghost use Rattle.causes.specs.Tables.{AddsPosition, IsPlaceTable, adds_enter, adds_mate, adds_start, positions_of_key};
 
 use crate::key::{Key, enters_key, events_key, mates_key, starts_key};
 use crate::positions::Positions;
@@ -17,12 +18,12 @@ use std::marker::Model;
 
 /// Lists of positions by keys.
 #[derive(Drop)]
-pub struct Places {
+pub struct PositionTable {
     alloc: Global,
     lists: IndexMap<Key, Positions>,
 }
 
-impl Model for Places {
+impl Model for PositionTable {
     ghost use Rattle.std.specs.Prelude.{List, ℕ};
     ghost use Rattle.causes.specs.declared.key.Key.{Key};
 
@@ -31,12 +32,12 @@ impl Model for Places {
     ghost view = { λ s. s.lists.entries };
 }
 
-impl Places {
+impl PositionTable {
     /// No positions.
     pub fn new(alloc: Global) -> Self
         ensures { result ≡ [] }
     {
-        Places {
+        PositionTable {
             alloc,
             lists: IndexMap::new(alloc),
         }
@@ -44,7 +45,7 @@ impl Places {
 
     /// The positions for a key, in order.
     pub fn get(&self, key: &Key) -> &[u32]
-        ensures { result.now ≡ places_at self.now key.now }
+        ensures { result.now ≡ positions_of_key self.now key.now }
     {
         match self.lists.get(key) {
             Some(places) => places.as_slice(),
@@ -54,7 +55,7 @@ impl Places {
 
     /// Adds a position for a key.
     fn push(&mut self, key: &Key, at: u32) -> Result<(), AllocError>
-        ensures { OnOk result (Adds (same_key key.now) at self.old self.new) }
+        ensures { OnOk result (AddsPosition (same_key key.now) at self.old self.new) }
     {
         if let Some(places) = self.lists.get_mut(key) {
             return places.push(at);
@@ -67,7 +68,7 @@ impl Places {
 
     /// Adds the position of an event that is a start.
     fn push_start(&mut self, at: u32, event: &Event) -> Result<(), AllocError>
-        ensures { OnOk result (Adds (adds_start event.now) at self.old self.new) }
+        ensures { OnOk result (AddsPosition (adds_start event.now) at self.old self.new) }
     {
         if is_start(&event.call, &event.reply) {
             return self.push(&starts_key(event.rank), at);
@@ -77,7 +78,7 @@ impl Places {
 
     /// Adds the position of an event that is an Enter.
     fn push_enter(&mut self, at: u32, event: &Event) -> Result<(), AllocError>
-        ensures { OnOk result (Adds (adds_enter event.now) at self.old self.new) }
+        ensures { OnOk result (AddsPosition (adds_enter event.now) at self.old self.new) }
     {
         if let Call::Enter { comm, .. } = &event.call {
             if is_start(&event.call, &event.reply) {
@@ -89,7 +90,7 @@ impl Places {
 
     /// Adds the position of an event that has a mate.
     fn push_mate(&mut self, at: u32, event: &Event) -> Result<(), AllocError>
-        ensures { OnOk result (Adds (adds_mate event.now) at self.old self.new) }
+        ensures { OnOk result (AddsPosition (adds_mate event.now) at self.old self.new) }
     {
         match event.mate {
             Some(mate) => self.push(&mates_key(mate), at),

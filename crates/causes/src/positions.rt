@@ -1,6 +1,6 @@
 //! Lists of positions.
 ghost use Rattle.std.specs.Prelude.{◌≡◌, ◌++◌, ◌∷◌, [], OnOk};
-ghost use Rattle.causes.specs.Positions.{listed};
+ghost use Rattle.std.specs.Option.{option_to_list};
 
 use std::alloc::{AllocError, Global};
 use std::marker::Model;
@@ -39,7 +39,7 @@ impl Positions {
 
     /// Adds a position at the end, if there is one.
     pub fn push_some(&mut self, at: Option<u32>) -> Result<(), AllocError>
-        ensures { OnOk result (self.new ≡ self.old ++ listed at) }
+        ensures { OnOk result (self.new ≡ self.old ++ option_to_list at) }
     {
         match at {
             Some(at) => self.push(at),

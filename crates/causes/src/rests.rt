@@ -1,44 +1,22 @@
 //! What the reply to an event rests on.
 ghost use Rattle.std.specs.Prelude.{◌≡◌, ◌++◌, ℕ, List, IfOk, OnOk, option_map, slice_get};
+ghost use Rattle.std.specs.Option.{option_to_list};
 ghost use Rattle.mpi_call.specs.Needs.{needs};
-ghost use Rattle.run_model.specs.Communicators.{members_in};
+ghost use Rattle.run_model.specs.Communicators.{members_for_rank};
 ghost use Rattle.run_model.specs.Views.{view_of};
 ghost use Rattle.run_model.specs.declared.event.Event.{Event as EventSpec};
 ghost use Rattle.causes.specs.Beside.{AreTables};
-ghost use Rattle.causes.specs.Positions.{listed, mate_in};
-ghost use Rattle.causes.specs.Steps.{collected_from, completed_from, entered_by, entered_one, given_from, received_at, rests_on, taken_from};
+ghost use Rattle.causes.specs.Positions.{mates_in};
+ghost use Rattle.causes.specs.Steps.{collected_from, completed_from, needed_enters, entered_one, given_from, received_at, rests_on, given_by_items};
 
 use crate::positions::Positions;
 use crate::tables::Tables;
-use mpi_call::call::{Call, Comm, Kind};
+use mpi_call::call::{Call, Comm};
 use mpi_call::lists::Ranks;
-use mpi_call::members::place_of;
-use mpi_call::needs::{UNDEFINED, colour_in, is_root};
+use mpi_call::needs::needs;
 use mpi_call::reply::{Got, Item, Reply};
 use run_model::event::Event;
 use std::alloc::{AllocError, Global};
-
-/// Whether the result of `me` needs what `who` entered, of whatever Enter and members.
-fn is_needed(enter: &Call, members: &Ranks, me: u8, who: u8) -> bool
-    ensures { result ≡ needs enter.now members.now me who }
-{
-    let Call::Enter {
-        kind,
-        root,
-        ints,
-        ..
-    } = enter
-    else {
-        return false;
-    };
-    match kind {
-        Kind::Barrier | Kind::Allreduce | Kind::Allgather | Kind::Alltoall | Kind::Dup => true,
-        Kind::Bcast | Kind::Scatter => is_root(root, who) || who == me,
-        Kind::Reduce | Kind::Gather => is_root(root, me) || who == me,
-        Kind::Scan => place_of(members.as_slice(), who) <= place_of(members.as_slice(), me),
-        Kind::Split => colour_in(ints) != UNDEFINED || who == me,
-    }
-}
 
 /// Adds the Enter of a member, if it is needed.
 fn push_enter(
@@ -53,7 +31,7 @@ fn push_enter(
 ) -> Result<(), AllocError>
     ensures { OnOk result ((before : List EventSpec) → AreTables before tables.now → found.new ≡ found.old ++ entered_one before comm instance (needs enter.now members.now me) member) }
 {
-    if is_needed(enter, members, me, member) {
+    if needs(enter, members, me, member) {
         return found.push_some(tables.enter(member, comm, instance));
     }
     Ok(())
@@ -69,7 +47,7 @@ fn push_enters(
     members: &Ranks,
     me: u8,
 ) -> Result<(), AllocError>
-    ensures { OnOk result ((before : List EventSpec) → AreTables before tables.now → found.new ≡ found.old ++ entered_by before comm instance (needs enter.now members.now me) members.now) }
+    ensures { OnOk result ((before : List EventSpec) → AreTables before tables.now → found.new ≡ found.old ++ needed_enters before comm instance (needs enter.now members.now me) members.now) }
 {
     let mut rest = members.as_slice();
     while let [member, after @ ..] = rest {
@@ -101,7 +79,7 @@ fn push_collected(
 
 /// The mate that the event at a position keeps.
 fn mate_at(before: &[Event], at: u32) -> Option<u32>
-    ensures { listed result ≡ mate_in (slice_get before.now at) }
+    ensures { option_to_list result ≡ mates_in (slice_get before.now at) }
 {
     match before.get(at as usize) {
         Some(event) => event.mate,
@@ -190,7 +168,7 @@ fn push_taken(
     items: &[Item],
 ) -> Result<(), AllocError>
     requires { AreTables before.now tables.now }
-    ensures { OnOk result (found.new ≡ found.old ++ taken_from tables.now.ranks before.now me starts.now items.now) }
+    ensures { OnOk result (found.new ≡ found.old ++ given_by_items tables.now.ranks before.now me starts.now items.now) }
 {
     let mut rest = items;
     while let [item, after @ ..] = rest {

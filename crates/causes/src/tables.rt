@@ -1,14 +1,14 @@
 //! The tables that stand beside the events.
 ghost use Rattle.std.specs.Prelude.{◌≡◌, ◌<◌, ◌^◌, ◌++◌, ◌∷◌, [], ℕ, List, IfOk, OnOk, length};
 ghost use Rattle.run_model.specs.declared.event.Event.{Event as EventSpec};
-ghost use Rattle.run_model.specs.Communicators.{members_in};
+ghost use Rattle.run_model.specs.Communicators.{members_for_rank};
 ghost use Rattle.run_model.specs.Views.{view_of};
 ghost use Rattle.causes.specs.Beside.{AreTables};
-ghost use Rattle.causes.specs.Positions.{enter_position, instance_at, positions, is_mate_of, start_position};
+ghost use Rattle.causes.specs.Positions.{enter_position, enter_instance_at, positions, is_mate_of, start_position};
 
 use crate::key::{enters_key, mates_key, starts_key};
-use crate::known::Known;
-use crate::places::{Places, count_below};
+use crate::known::KnownMembers;
+use crate::places::{PositionTable, count_below};
 use mpi_call::call::Comm;
 use mpi_call::lists::Ranks;
 use run_model::event::Event;
@@ -20,9 +20,9 @@ use std::alloc::{AllocError, Global};
 pub struct Tables {
     pub ranks: u8,
     /// Positions of events by keys.
-    pub places: Places,
+    pub places: PositionTable,
     /// The communicators that each rank knows by its replies.
-    pub known: Known,
+    pub known: KnownMembers,
     /// All ranks.
     pub world: Ranks,
     /// The members of a communicator that a rank doesn't know.
@@ -37,8 +37,8 @@ impl Tables {
     {
         Ok(Tables {
             ranks,
-            places: Places::new(alloc),
-            known: Known::new(alloc),
+            places: PositionTable::new(alloc),
+            known: KnownMembers::new(alloc),
             world: all_ranks(alloc, ranks)?,
             nobody: Ranks::new(alloc),
         })
@@ -72,7 +72,7 @@ impl Tables {
     /// The instance of a rank's Enter at a position.
     pub fn instance(&self, before: &[Event], rank: u8, comm: Comm, at: u32) -> usize
         requires { AreTables before.now self.now }
-        ensures { result ≡ instance_at before.now rank comm at }
+        ensures { result ≡ enter_instance_at before.now rank comm at }
     {
         count_below(self.places.get(&enters_key(rank, comm)), at)
     }
@@ -86,7 +86,7 @@ impl Tables {
 
     /// The members of a communicator for a rank; none where it doesn't know it.
     pub fn members(&self, rank: u8, comm: Comm) -> &Ranks
-        ensures { (before : List EventSpec) → AreTables before self.now → result.now ≡ members_in self.now.ranks (view_of before rank) comm }
+        ensures { (before : List EventSpec) → AreTables before self.now → result.now ≡ members_for_rank self.now.ranks (view_of before rank) comm }
     {
         if comm == 0 {
             return &self.world;

@@ -10,7 +10,7 @@ use Rattle.mpi_call.specs.Needs.{agree}
 use Rattle.mpi_call.specs.declared.call.Call.{Call}
 use Rattle.mpi_call.specs.declared.call.Call.TheVariants.{Enter}
 use Rattle.mpi_call.specs.Lists.{IsIn}
-use Rattle.collectives.specs.Entrants.{AllAgree, first_against, ints_at, ints_by, place_by}
+use Rattle.collectives.specs.Entrants.{AllAgree, first_against, ints_at, ints_by, enter_place}
 use Rattle.collectives.specs.declared.entrants.Entrant.{Entrant}
 
 -- only an Enter agrees with itself
@@ -38,27 +38,27 @@ none_against (x ∷ others) call first all some is h =
     sym (ap (option_map (λ (e : Entrant). e.rank)) none)
 
 -- the ints at a rank's place are what it entered
-pub ints_at-place_by : (entrants : List Entrant) (rank : ℕ) → ints_at entrants (place_by entrants rank) ≡ ints_by entrants rank
+pub ints_at-place_by : (entrants : List Entrant) (rank : ℕ) → ints_at entrants (enter_place entrants rank) ≡ ints_by entrants rank
 ints_at-place_by [] rank = refl
 ints_at-place_by (e ∷ others) rank =
     elim (cases_Bool (e.rank == rank)) [
       | inl same ↦ rw same refl
       | inr other ↦
-          let one_more : 1 + place_by others rank ≡ suc (place_by others rank) = omega arith in
+          let one_more : 1 + enter_place others rank ≡ suc (enter_place others rank) = omega arith in
           rw (other, one_more) (ints_at-place_by others rank)
     ]
 
 -- the table of places begins with no place for any rank
 pub places_at_first : (entrants : List Entrant) (rank : ℕ) → rank < 256
-    → get_or (replicate 256 (length entrants)) rank 0 ≡ length entrants + place_by (drop (length entrants) entrants) rank
+    → get_or (replicate 256 (length entrants)) rank 0 ≡ length entrants + enter_place (drop (length entrants) entrants) rank
 places_at_first entrants rank h =
     let none : drop (length entrants) entrants ≡ [] = drop_all (length entrants) entrants (omega arith) in
     let same : length entrants ≡ length entrants + 0 = omega arith in
-    get_or-replicate 256 rank (length entrants) 0 h ∙ (same ∙ ap (λ rest. length entrants + place_by rest rank) (sym none))
+    get_or-replicate 256 rank (length entrants) 0 h ∙ (same ∙ ap (λ rest. length entrants + enter_place rest rank) (sym none))
 
 -- one more member's ints
 pub inputs_step : (entrants : List Entrant) (members places : List ℕ) (inputs new : List (List ℤ)) (i : ℕ) → i < length members
-    → ((rank : ℕ) → rank < 256 → get_or places rank 0 ≡ place_by entrants rank) → get_or members i 0 < 256
+    → ((rank : ℕ) → rank < 256 → get_or places rank 0 ≡ enter_place entrants rank) → get_or members i 0 < 256
     → inputs ≡ map (ints_by entrants) (take i members) → new ≡ inputs ++ ints_at entrants (get_or places (get_or members i 0) 0) ∷ []
     → new ≡ map (ints_by entrants) (take (i + 1) members)
 inputs_step entrants members places inputs new i within known byte so_far is =

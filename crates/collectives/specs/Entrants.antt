@@ -18,8 +18,8 @@ ints_by [] rank = []
 ints_by (entrant ∷ others) rank = if entrant.rank == rank then ints_of entrant.call else ints_by others rank
 
 -- where a rank's Enter stands, or how many there are, and the ints of the Enter at a place
-abbrev pub place_by : List Entrant → ℕ → ℕ
-place_by entrants rank = position_or_len (λ entrant. entrant.rank == rank) entrants
+abbrev pub enter_place : List Entrant → ℕ → ℕ
+enter_place entrants rank = position_or_len (λ entrant. entrant.rank == rank) entrants
 
 -- the ints of the Enter at a place, none past the end
 abbrev pub ints_at : List Entrant → ℕ → List ℤ
@@ -30,8 +30,8 @@ abbrev pub first_against : List Entrant → Call → Option ℕ
 first_against entrants call = option_map (λ entrant. entrant.rank) (find (λ entrant. not (agree entrant.call call)) entrants)
 
 -- the Enters of all others
-abbrev pub without : ℕ → List Entrant → List Entrant
-without rank entrants = filter (λ entrant. not (entrant.rank == rank)) entrants
+abbrev pub without_rank : ℕ → List Entrant → List Entrant
+without_rank rank entrants = filter (λ entrant. not (entrant.rank == rank)) entrants
 
 -- any two agree, so that all are Enters
 pub record AllAgree (entrants : List Entrant) : Type 0 where

@@ -5,25 +5,25 @@ use Rattle.std.specs.Map.{lookup}
 use Rattle.collectives.specs.declared.entrants.Entrant.{Entrant}
 
 -- the instances of communicators by number
-abbrev pub Table : Type 0
-Table = List (ℕ × List (List Entrant))
+abbrev pub InstancesByCommunicator : Type 0
+InstancesByCommunicator = List (ℕ × List (List Entrant))
 
 -- the instances of a communicator
-abbrev pub instances_in : Table → ℕ → List (List Entrant)
+abbrev pub instances_in : InstancesByCommunicator → ℕ → List (List Entrant)
 instances_in table comm = unwrap_or (lookup (nat_eq comm) table) []
 
 -- each communicator has the same instances, or each but one
-abbrev pub HaveSame : Table → Table → Type 0
-HaveSame old new = (other : ℕ) → instances_in new other ≡ instances_in old other
+abbrev pub HaveSameInstances : InstancesByCommunicator → InstancesByCommunicator → Type 0
+HaveSameInstances old new = (other : ℕ) → instances_in new other ≡ instances_in old other
 
-abbrev pub HaveSameBeside : ℕ → Table → Table → Type 0
+abbrev pub HaveSameBeside : ℕ → InstancesByCommunicator → InstancesByCommunicator → Type 0
 HaveSameBeside comm old new = (other : ℕ) → (comm == other) ≡ false → instances_in new other ≡ instances_in old other
 
 -- a number above those of all communicators that are there
-abbrev pub above_all : Table → ℕ
+abbrev pub above_all : InstancesByCommunicator → ℕ
 above_all [] = 0
 above_all (entry ∷ entries) = suc (entry.0 + above_all entries)
 
 -- the same as a list: the instances of the communicators 0, 1, 2 and so on
-abbrev pub listed : Table → List (List (List Entrant))
-listed table = map (instances_in table) (range_with_len 0 (above_all table))
+abbrev pub instance_lists : InstancesByCommunicator → List (List (List Entrant))
+instance_lists table = map (instances_in table) (range_with_len 0 (above_all table))

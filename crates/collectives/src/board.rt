@@ -1,9 +1,9 @@
 //! The collectives of all communicators.
 ghost use Rattle.std.specs.Prelude.{◌≡◌, ◌-◌, ◌<◌, [], ℕ, map, IfOk, IsOk, IsTrue, OnErr};
 ghost use Rattle.mpi_call.specs.Calls.{comm_of, is_enter};
-ghost use Rattle.collectives.specs.Boards.{entered_by, enters_of, enters_on, IsBoardAfter, IsOrderly, IsTrimmed, LosesEnter};
+ghost use Rattle.collectives.specs.Boards.{board_answer, enters_of, enters_made, IsBoardAfter, IsOrderly, IsTrimmed, LosesEnter};
 ghost use Rattle.collectives.specs.Entrants.{has_entered, ints_by};
-ghost use Rattle.collectives.specs.Instances.{enters_by, instance_at};
+ghost use Rattle.collectives.specs.Instances.{enters_by, instance_enters};
 ghost use Rattle.collectives.specs.declared.instances.Entered.TheVariants.{Disagrees};
 
 use crate::instance_table::InstanceTable;
@@ -26,11 +26,11 @@ pub struct Board {
 impl Model for Board {
     ghost use Rattle.std.specs.Prelude.{◌≡◌, []};
     ghost use Rattle.collectives.specs.Boards.{Stages, stages_of};
-    ghost use Rattle.collectives.specs.InstanceTable.{listed};
+    ghost use Rattle.collectives.specs.InstanceTable.{instance_lists};
 
     ghost Value = { Stages };
 
-    ghost view = { λ s. stages_of (listed s.table) };
+    ghost view = { λ s. stages_of (instance_lists s.table) };
 
     ghost invariant = { λ s. s.none ≡ [] };
 }
@@ -51,10 +51,10 @@ impl Board {
     /// not agree.
     pub fn enter(&mut self, rank: u8, call: &Call) -> Result<Entered, AllocError>
         requires call { IsTrue (is_enter call.now) }
-        ensures answer { IfOk result (λ entered. entered ≡ entered_by self.old rank call.now) }
+        ensures answer { IfOk result (λ entered. entered ≡ board_answer self.old rank call.now) }
 
         // An Enter that disagrees takes no memory.
-        ensures disagrees { (other : ℕ) → entered_by self.old rank call.now ≡ Disagrees other → IsOk result }
+        ensures disagrees { (other : ℕ) → board_answer self.old rank call.now ≡ Disagrees other → IsOk result }
         ensures after { IfOk result (λ entered. IsBoardAfter self.old self.new rank call.now entered) }
         ensures err { OnErr result (self.new ≡ self.old) }
     {
@@ -63,8 +63,8 @@ impl Board {
 
     /// The instances of a communicator. Who asks for several ranks looks their communicator up once. Takes no memory.
     pub fn instances_on(&self, comm: Comm) -> &Instances
-        ensures enters { (instance : ℕ) → instance_at result.now instance ≡ enters_of self.now comm instance }
-        ensures count { (rank : ℕ) → enters_by result.now rank ≡ enters_on self.now comm rank }
+        ensures enters { (instance : ℕ) → instance_enters result.now instance ≡ enters_of self.now comm instance }
+        ensures count { (rank : ℕ) → enters_by result.now rank ≡ enters_made self.now comm rank }
         ensures trimmed { IsTrimmed self.now }
     {
         match self.table.get(comm) {
@@ -75,7 +75,7 @@ impl Board {
 
     /// How many Enters a rank has made on a communicator: the instance of its next one. Takes no memory.
     pub fn enters_on(&self, comm: Comm, rank: u8) -> u32
-        ensures value { result ≡ enters_on self.now comm rank }
+        ensures value { result ≡ enters_made self.now comm rank }
         ensures orderly { IsOrderly self.now comm rank }
         ensures trimmed { IsTrimmed self.now }
     {
@@ -99,8 +99,8 @@ impl Board {
 
     /// Takes a rank's latest Enter on a communicator out. Takes no memory.
     pub fn leave(&mut self, rank: u8, comm: Comm)
-        requires { 0 < enters_on self.old comm rank }
-        ensures loses { LosesEnter self.old self.new comm (enters_on self.old comm rank - 1) rank }
+        requires { 0 < enters_made self.old comm rank }
+        ensures loses { LosesEnter self.old self.new comm (enters_made self.old comm rank - 1) rank }
         ensures trimmed { IsTrimmed self.new }
     {
         self.table.leave(rank, comm);

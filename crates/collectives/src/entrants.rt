@@ -1,7 +1,7 @@
 //! The Enters of one instance.
 ghost use Rattle.std.specs.Prelude.{◌≡◌, ◌<◌, ◌++◌, ◌∷◌, [], ℕ, length, map, slice_index, IfErr, IfOk, IsTrue, OnErr, OnOk};
 ghost use Rattle.mpi_call.specs.Calls.{ints_of, is_enter};
-ghost use Rattle.collectives.specs.Entrants.{first_against, ints_at, ints_by, place_by, without, AllAgree};
+ghost use Rattle.collectives.specs.Entrants.{first_against, ints_at, ints_by, enter_place, without_rank, AllAgree};
 
 use mpi_call::call::Call;
 use mpi_call::lists::{Inputs, Ints};
@@ -85,7 +85,7 @@ impl Entrants {
 
     /// Takes a rank's Enter out. Takes no memory.
     pub fn remove(&mut self, rank: u8)
-        ensures { self.new ≡ without rank self.old }
+        ensures { self.new ≡ without_rank rank self.old }
     {
         self.values.retain(|entrant| entrant.rank != rank);
     }
@@ -100,7 +100,7 @@ impl Entrants {
 
 /// Where each rank's first Enter stands, or the number of Enters where it has none.
 fn places_of(entrants: &[Entrant]) -> [usize; 256]
-    ensures { (rank : ℕ) → rank < 256 → slice_index result rank ≡ place_by entrants.now rank }
+    ensures { (rank : ℕ) → rank < 256 → slice_index result rank ≡ enter_place entrants.now rank }
 {
     let mut places = [entrants.len(); 256];
     let mut place = entrants.len();

@@ -2,8 +2,8 @@
 ghost use Rattle.std.specs.Map.{lookup};
 ghost use Rattle.std.specs.Prelude.{◌≡◌, ◌-◌, ◌<◌, [], ℕ, false, nat_eq, option_map, IfOk, IsOk, IsTrue, OnErr, OnOk};
 ghost use Rattle.mpi_call.specs.Calls.{is_enter};
-ghost use Rattle.collectives.specs.InstanceTable.{instances_in, HaveSame, HaveSameBeside};
-ghost use Rattle.collectives.specs.Instances.{answer_of, enters_by, IsInstancesAfter, Loses};
+ghost use Rattle.collectives.specs.InstanceTable.{instances_in, HaveSameInstances, HaveSameBeside};
+ghost use Rattle.collectives.specs.Instances.{instance_answer, enters_by, IsInstancesAfter, Loses};
 ghost use Rattle.collectives.specs.declared.instances.Entered.TheVariants.{Disagrees};
 
 use crate::instances::{Entered, Instances};
@@ -20,9 +20,9 @@ pub struct InstanceTable {
 }
 
 impl Model for InstanceTable {
-    ghost use Rattle.collectives.specs.InstanceTable.{Table};
+    ghost use Rattle.collectives.specs.InstanceTable.{InstancesByCommunicator};
 
-    ghost Value = { Table };
+    ghost Value = { InstancesByCommunicator };
 
     ghost view = { λ s. s.lists.entries };
 }
@@ -49,13 +49,13 @@ impl InstanceTable {
     /// not agree.
     pub fn enter(&mut self, comm: Comm, rank: u8, call: &Call) -> Result<Entered, AllocError>
         requires call { IsTrue (is_enter call.now) }
-        ensures answer { IfOk result (λ entered. entered ≡ answer_of (instances_in self.old comm) rank call.now) }
+        ensures answer { IfOk result (λ entered. entered ≡ instance_answer (instances_in self.old comm) rank call.now) }
 
         // An Enter that disagrees takes no memory.
-        ensures disagrees { (other : ℕ) → answer_of (instances_in self.old comm) rank call.now ≡ Disagrees other → IsOk result }
+        ensures disagrees { (other : ℕ) → instance_answer (instances_in self.old comm) rank call.now ≡ Disagrees other → IsOk result }
         ensures after { IfOk result (λ entered. IsInstancesAfter (instances_in self.old comm) (instances_in self.new comm) rank call.now entered) }
         ensures others { HaveSameBeside comm self.old self.new }
-        ensures err { OnErr result (HaveSame self.old self.new) }
+        ensures err { OnErr result (HaveSameInstances self.old self.new) }
     {
         if let Some(instances) = self.lists.get_mut(&comm) {
             return instances.enter(self.alloc, rank, call);

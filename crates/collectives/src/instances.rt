@@ -2,7 +2,7 @@
 ghost use Rattle.std.specs.Prelude.{◌≡◌, ◌-◌, ◌<◌, ◌≤◌, [], ℕ, length, map, IfOk, IsOk, IsTrue, None, OnErr, OnOk, slice_index, vec_len};
 ghost use Rattle.mpi_call.specs.Calls.{is_enter};
 ghost use Rattle.collectives.specs.Entrants.{first_against, has_entered, ints_by, AllAgree};
-ghost use Rattle.collectives.specs.Instances.{answer_of, enters_by, instance_at, AreOrderly, Gains, IsInstancesAfter, Loses};
+ghost use Rattle.collectives.specs.Instances.{instance_answer, enters_by, instance_enters, AreOrderly, Gains, IsInstancesAfter, Loses};
 ghost use Rattle.collectives.specs.declared.instances.Entered.TheVariants.{Disagrees};
 
 use crate::entrants::{Entrant, Entrants};
@@ -30,14 +30,14 @@ pub struct Instances {
 
 impl Model for Instances {
     ghost use Rattle.std.specs.Prelude.{List};
-    ghost use Rattle.collectives.specs.Instances.{IsKept};
+    ghost use Rattle.collectives.specs.Instances.{AreInstancesKept};
     ghost use Rattle.collectives.specs.declared.entrants.Entrant.{Entrant};
 
     ghost Value = { List (List Entrant) };
 
     ghost view = { λ s. s.lists.items };
 
-    ghost invariant = { λ s. IsKept s.lists.items s.counts.items };
+    ghost invariant = { λ s. AreInstancesKept s.lists.items s.counts.items };
 }
 
 impl Instances {
@@ -61,14 +61,14 @@ impl Instances {
 
     /// Whether a rank has entered an instance. Takes no memory.
     pub fn entered(&self, instance: u32, who: u8) -> bool
-        ensures { result ≡ has_entered (instance_at self.now instance) who }
+        ensures { result ≡ has_entered (instance_enters self.now instance) who }
     {
         instance < count_of(&self.counts, who)
     }
 
     /// What each of these members entered in an instance, nothing where it has not.
     pub fn inputs(&self, alloc: Global, instance: u32, members: &[u8]) -> Result<Inputs, AllocError>
-        ensures { IfOk result (λ inputs. inputs ≡ map (ints_by (instance_at self.now instance)) members.now) }
+        ensures { IfOk result (λ inputs. inputs ≡ map (ints_by (instance_enters self.now instance)) members.now) }
     {
         match self.lists.get(instance as usize) {
             Some(entrants) => entrants.inputs(alloc, members),
@@ -79,10 +79,10 @@ impl Instances {
     /// Adds an Enter of a rank to that rank's next instance, or answers the earliest rank whose Enter there does not agree.
     pub fn enter(&mut self, alloc: Global, rank: u8, call: &Call) -> Result<Entered, AllocError>
         requires call { IsTrue (is_enter call.now) }
-        ensures answer { IfOk result (λ entered. entered ≡ answer_of self.old rank call.now) }
+        ensures answer { IfOk result (λ entered. entered ≡ instance_answer self.old rank call.now) }
 
         // An Enter that disagrees takes no memory.
-        ensures disagrees { (other : ℕ) → answer_of self.old rank call.now ≡ Disagrees other → IsOk result }
+        ensures disagrees { (other : ℕ) → instance_answer self.old rank call.now ≡ Disagrees other → IsOk result }
         ensures after { IfOk result (λ entered. IsInstancesAfter self.old self.new rank call.now entered) }
         ensures err { OnErr result (self.new ≡ self.old) }
     {
@@ -98,7 +98,7 @@ impl Instances {
     /// Adds an Enter of a rank, which agrees with those before, to that rank's next instance, and answers the instance.
     fn join(&mut self, alloc: Global, rank: u8, call: &Call) -> Result<u32, AllocError>
         requires call { IsTrue (is_enter call.now) }
-        requires agrees { first_against (instance_at self.old (enters_by self.old rank)) call.now ≡ None }
+        requires agrees { first_against (instance_enters self.old (enters_by self.old rank)) call.now ≡ None }
         ensures instance { IfOk result (λ instance. instance ≡ enters_by self.old rank) }
         ensures gains { OnOk result (Gains self.old self.new (enters_by self.old rank) (record { rank = rank; call = call.now })) }
         ensures err { OnErr result (self.new ≡ self.old) }
@@ -138,9 +138,9 @@ fn count_of(counts: &[u32], rank: u8) -> u32
 
 /// The earliest rank in an instance whose Enter does not agree with this one.
 fn first_against(lists: &[Entrants], instance: u32, call: &Call) -> Option<u8>
-    requires all { AllAgree (instance_at lists.now instance) }
+    requires all { AllAgree (instance_enters lists.now instance) }
     requires call { IsTrue (is_enter call.now) }
-    ensures { result ≡ first_against (instance_at lists.now instance) call.now }
+    ensures { result ≡ first_against (instance_enters lists.now instance) call.now }
 {
     match lists.get(instance as usize) {
         Some(entrants) => entrants.first_against(call),

@@ -14,7 +14,7 @@ use Rattle.std.specs.Ordering.{int_cmp, int_eq, is_eq, is_lt, ordering_index, or
 use Rattle.std.specs.Prelude.{◌==◌, nat_lt, int_lt}
 use Rattle.mpi_call.specs.Made.{by_key, placed}
 use Rattle.mpi_call.specs.Needs.{colour_in, undefined_colour}
-use Rattle.comms.specs.Colours.{colours_of, number_for, place_among}
+use Rattle.comms.specs.Colours.{colours_of, colour_number, place_among}
 
 all_at : {A : Type 0} (P : A → Type 0) (xs : List A) → AllByRecursion P xs → (k : ℕ) (d : A) → k < length xs → P (get_or xs k d)
 all_at P [] all k d h = absurd (omega arith)
@@ -97,12 +97,12 @@ defined_more inputs i within =
     ∙ filter-append (λ colour. not (int_eq colour undefined_colour)) (map colour_in (take i inputs)) (colour_in (get_or inputs i []) ∷ [])
 
 -- a number inside the colours, and outside them
-pub number_in : (colours : List ℤ) (first place : ℕ) (colour : ℤ) → place ≡ place_among colours colour → place < length colours → first + place ≡ number_for colours first colour
+pub number_in : (colours : List ℤ) (first place : ℕ) (colour : ℤ) → place ≡ place_among colours colour → place < length colours → first + place ≡ colour_number colours first colour
 number_in colours first place colour is within =
     let inside : nat_lt (place_among colours colour) (length colours) ≡ true = lt-ltb (place_among colours colour) (length colours) (omega arith) in
     rw inside (ap (λ (n : ℕ). first + n) is)
 
-pub number_out : (colours : List ℤ) (first place : ℕ) (colour : ℤ) → place ≡ place_among colours colour → length colours ≤ place → 0 ≡ number_for colours first colour
+pub number_out : (colours : List ℤ) (first place : ℕ) (colour : ℤ) → place ≡ place_among colours colour → length colours ≤ place → 0 ≡ colour_number colours first colour
 number_out colours first place colour is past =
     elim (cases_Bool (nat_lt (place_among colours colour) (length colours))) [
       | inl inside ↦ absurd (let below : place_among colours colour < length colours = ltb-true (place_among colours colour) (length colours) inside in omega arith)
@@ -110,12 +110,12 @@ number_out colours first place colour is past =
     ]
 
 pub numbers_step : (colours : List ℤ) (first : ℕ) (inputs : List (List ℤ)) (i : ℕ) (numbers new : List ℕ) (ints : List ℤ) (colour : ℤ) (number : ℕ) → i < length inputs → ints ≡ get_or inputs i ints
-    → colour ≡ colour_in ints → number ≡ number_for colours first colour → numbers ≡ map (λ ints. number_for colours first (colour_in ints)) (take i inputs)
-    → new ≡ numbers ++ number ∷ [] → new ≡ map (λ ints. number_for colours first (colour_in ints)) (take (i + 1) inputs)
+    → colour ≡ colour_in ints → number ≡ colour_number colours first colour → numbers ≡ map (λ ints. colour_number colours first (colour_in ints)) (take i inputs)
+    → new ≡ numbers ++ number ∷ [] → new ≡ map (λ ints. colour_number colours first (colour_in ints)) (take (i + 1) inputs)
 numbers_step colours first inputs i numbers new ints colour number within at is_colour is so_far grown =
-    let here : number ≡ number_for colours first (colour_in (get_or inputs i [])) =
-    is ∙ ap (number_for colours first) (is_colour ∙ ap colour_in (at ∙ get_or_default inputs i ints [] within)) in
-    grown ∙ (ap₂ (λ (front : List ℕ) (n : ℕ). front ++ n ∷ []) so_far here ∙ sym (map_more (λ ints. number_for colours first (colour_in ints)) inputs i [] within))
+    let here : number ≡ colour_number colours first (colour_in (get_or inputs i [])) =
+    is ∙ ap (colour_number colours first) (is_colour ∙ ap colour_in (at ∙ get_or_default inputs i ints [] within)) in
+    grown ∙ (ap₂ (λ (front : List ℕ) (n : ℕ). front ++ n ∷ []) so_far here ∙ sym (map_more (λ ints. colour_number colours first (colour_in ints)) inputs i [] within))
 
 -- how many colours there are
 length-dedup_from : (k : ℤ) (xs : List ℤ) → length (dedup_from int_eq k xs) ≤ suc (length xs)

@@ -17,7 +17,7 @@ use Rattle.mpi_call.specs.Needs.{colour_in}
 use Rattle.mpi_call.proofs.FoldLemmas.{range_with_len-more}
 use Rattle.comms.proofs.ColourLemmas.{length-by_key, length-colours_of, length-part}
 use Rattle.comms.specs.Colours.{colours_of}
-use Rattle.comms.specs.Communicators.{given_in, number_at, AreColoursOf, AreSmall, Communicators, Makes}
+use Rattle.comms.specs.Communicators.{given_in, number_given_to, AreColoursOf, HaveFewMembers, Communicators, Makes}
 
 neq-eqb : (a b : ℕ) → a ≢ b → (a == b) ≡ false
 neq-eqb a b apart = elim (cases_Bool (a == b)) [ inl h ↦ absurd (apart (eqb-true a b h)) | inr h ↦ h ]
@@ -67,27 +67,27 @@ makes_is old members given comm instance made numbers is updates = record {
 -- what the map has for an instance
 pub number_found : (seen : Communicators) (entries : List ((ℕ × ℕ) × List ℕ)) (members : List (List ℕ)) (comm instance rank place number : ℕ) (numbers : List ℕ)
     → Some numbers ≡ lookup (is_at (pair_cmp (comm, instance))) entries → entries ≡ seen.given → members ≡ seen.members
-    → place ≡ place_of (get_or members comm []) rank → number ≡ slice_index numbers place → Some number ≡ number_at seen comm instance rank
+    → place ≡ place_of (get_or members comm []) rank → number ≡ slice_index numbers place → Some number ≡ number_given_to seen comm instance rank
 number_found seen entries members comm instance rank place number numbers found is_given is_members is_place is =
     let there : Some numbers ≡ given_in seen.given comm instance = found ∙ (sym (given_in_is entries comm instance) ∙ ap (λ (all : List ((ℕ × ℕ) × List ℕ)). given_in all comm instance) is_given) in
     let at : place ≡ place_of (get_or seen.members comm []) rank = is_place ∙ ap (λ (all : List (List ℕ)). place_of (get_or all comm []) rank) is_members in
     ap (λ (n : ℕ). Some n) (is ∙ ap (slice_index numbers) at) ∙ ap (option_map (λ (numbers : List ℕ). slice_index numbers (place_of (get_or seen.members comm []) rank))) there
 
 pub number_missed : (seen : Communicators) (entries : List ((ℕ × ℕ) × List ℕ)) (comm instance rank : ℕ) → None ≡ lookup (is_at (pair_cmp (comm, instance))) entries → entries ≡ seen.given
-    → None ≡ number_at seen comm instance rank
+    → None ≡ number_given_to seen comm instance rank
 number_missed seen entries comm instance rank missed is_given =
     let there : None ≡ given_in seen.given comm instance = missed ∙ (sym (given_in_is entries comm instance) ∙ ap (λ (all : List ((ℕ × ℕ) × List ℕ)). given_in all comm instance) is_given) in
     ap (option_map (λ (numbers : List ℕ). slice_index numbers (place_of (get_or seen.members comm []) rank))) there
 
 -- how many members there are
-pub small_world : (ranks : ℕ) → ranks ≤ 255 → AreSmall (range_with_len 0 ranks ∷ [])
+pub small_world : (ranks : ℕ) → ranks ≤ 255 → HaveFewMembers (range_with_len 0 ranks ∷ [])
 small_world ranks few = record { at = at }
   where
     at : (comm : ℕ) → length (get_or (range_with_len 0 ranks ∷ []) comm []) ≤ 255
     at zero = (let long : length (range_with_len 0 ranks) ≡ ranks = length-range_with_len 0 ranks in omega arith)
     at (suc comm) = omega arith
 
-pub small_append : (old made : List (List ℕ)) → AreSmall old → AreSmall made → AreSmall (old ++ made)
+pub small_append : (old made : List (List ℕ)) → HaveFewMembers old → HaveFewMembers made → HaveFewMembers (old ++ made)
 small_append old made few more = record { at = at old made few.at more.at }
   where
     at : (old made : List (List ℕ)) → ((comm : ℕ) → length (get_or old comm []) ≤ 255) → ((comm : ℕ) → length (get_or made comm []) ≤ 255)
@@ -110,7 +110,7 @@ length-split_into colour members inputs =
     let both : length (zip members inputs) ≤ length members = length-zip members inputs in
     omega arith
 
-pub small_split : (colours : List ℤ) (members : List ℕ) (inputs : List (List ℤ)) → length members ≤ 255 → AreSmall (map (λ colour. split_into colour members inputs) colours)
+pub small_split : (colours : List ℤ) (members : List ℕ) (inputs : List (List ℤ)) → length members ≤ 255 → HaveFewMembers (map (λ colour. split_into colour members inputs) colours)
 small_split colours members inputs few = record { at = at colours }
   where
     at : (colours : List ℤ) (comm : ℕ) → length (get_or (map (λ colour. split_into colour members inputs) colours) comm []) ≤ 255
@@ -118,7 +118,7 @@ small_split colours members inputs few = record { at = at colours }
     at (colour ∷ colours) zero = (let part : length (split_into colour members inputs) ≤ length members = length-split_into colour members inputs in omega arith)
     at (colour ∷ colours) (suc comm) = at colours comm
 
-pub small_one : (members : List ℕ) → length members ≤ 255 → AreSmall (members ∷ [])
+pub small_one : (members : List ℕ) → length members ≤ 255 → HaveFewMembers (members ∷ [])
 small_one members few = record { at = at }
   where
     at : (comm : ℕ) → length (get_or (members ∷ []) comm []) ≤ 255

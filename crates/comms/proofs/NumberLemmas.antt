@@ -9,7 +9,7 @@ use Rattle.std.specs.Prelude.{int_lt}
 use Rattle.mpi_call.specs.Made.{by_key, placed, split_into}
 use Rattle.mpi_call.specs.Needs.{colour_in, undefined_colour}
 use Rattle.comms.proofs.ColourLemmas.{hit}
-use Rattle.comms.specs.Colours.{colours_of, number_for, place_among, split_members}
+use Rattle.comms.specs.Colours.{colours_of, colour_number, place_among, split_members}
 
 or-swap : (a b c : Bool) → (a || (b || c)) ≡ (b || (a || c))
 or-swap true true c = refl
@@ -80,23 +80,23 @@ colour_within inputs place within defined =
     (any-dedup (λ other. int_eq other colour) (by_key (λ y. y) defined_ones)
     ∙ (any-by_key (λ other. int_eq other colour) defined_ones ∙ any-defined colour inputs place within refl defined))
 
-number_is : (colours : List ℤ) (first : ℕ) (colour : ℤ) → place_among colours colour < length colours → number_for colours first colour ≡ first + place_among colours colour
+number_is : (colours : List ℤ) (first : ℕ) (colour : ℤ) → place_among colours colour < length colours → colour_number colours first colour ≡ first + place_among colours colour
 number_is colours first colour within = rw (lt-ltb (place_among colours colour) (length colours) within) refl
 
 -- its number is above 0, where there is a world
 pub number_above : (inputs : List (List ℤ)) (first place : ℕ) → 0 < first → place < length inputs → int_eq (colour_in (get_or inputs place [])) undefined_colour ≡ false
-    → 0 < number_for (colours_of inputs) first (colour_in (get_or inputs place []))
+    → 0 < colour_number (colours_of inputs) first (colour_in (get_or inputs place []))
 number_above inputs first place some within defined =
-    let is : number_for (colours_of inputs) first (colour_in (get_or inputs place [])) ≡ first + place_among (colours_of inputs) (colour_in (get_or inputs place [])) =
+    let is : colour_number (colours_of inputs) first (colour_in (get_or inputs place [])) ≡ first + place_among (colours_of inputs) (colour_in (get_or inputs place [])) =
     number_is (colours_of inputs) first (colour_in (get_or inputs place [])) (colour_within inputs place within defined) in
     omega arith
 
 -- and is another's just where the colour is
 pub number_same : (inputs : List (List ℤ)) (first : ℕ) (a b : ℤ) → place_among (colours_of inputs) a < length (colours_of inputs) → place_among (colours_of inputs) b < length (colours_of inputs)
-    → number_for (colours_of inputs) first a ≡ number_for (colours_of inputs) first b → a ≡ b
+    → colour_number (colours_of inputs) first a ≡ colour_number (colours_of inputs) first b → a ≡ b
 number_same inputs first a b within_a within_b same =
-    let is_a : number_for (colours_of inputs) first a ≡ first + place_among (colours_of inputs) a = number_is (colours_of inputs) first a within_a in
-    let is_b : number_for (colours_of inputs) first b ≡ first + place_among (colours_of inputs) b = number_is (colours_of inputs) first b within_b in
+    let is_a : colour_number (colours_of inputs) first a ≡ first + place_among (colours_of inputs) a = number_is (colours_of inputs) first a within_a in
+    let is_b : colour_number (colours_of inputs) first b ≡ first + place_among (colours_of inputs) b = number_is (colours_of inputs) first b within_b in
     let places : place_among (colours_of inputs) a ≡ place_among (colours_of inputs) b = omega arith in
     let at_a : get_or (colours_of inputs) (place_among (colours_of inputs) a) a ≡ a = (Decides-int_eq (get_or (colours_of inputs) (place_among (colours_of inputs) a) a) a).0 (hit (colours_of inputs) a a within_a) in
     let at_b : get_or (colours_of inputs) (place_among (colours_of inputs) b) a ≡ b = (Decides-int_eq (get_or (colours_of inputs) (place_among (colours_of inputs) b) a) b).0 (hit (colours_of inputs) b a within_b) in
@@ -109,9 +109,9 @@ behind (x ∷ old) made n =
 
 -- the communicator of that number has the members of that colour
 pub number_members : (old : List (List ℕ)) (members : List ℕ) (inputs : List (List ℤ)) (colour : ℤ) → place_among (colours_of inputs) colour < length (colours_of inputs)
-    → get_or (old ++ split_members members inputs) (number_for (colours_of inputs) (length old) colour) [] ≡ split_into colour members inputs
+    → get_or (old ++ split_members members inputs) (colour_number (colours_of inputs) (length old) colour) [] ≡ split_into colour members inputs
 number_members old members inputs colour within =
-    let is : number_for (colours_of inputs) (length old) colour ≡ length old + place_among (colours_of inputs) colour = number_is (colours_of inputs) (length old) colour within in
+    let is : colour_number (colours_of inputs) (length old) colour ≡ length old + place_among (colours_of inputs) colour = number_is (colours_of inputs) (length old) colour within in
     let at : get_or (colours_of inputs) (place_among (colours_of inputs) colour) colour ≡ colour =
     (Decides-int_eq (get_or (colours_of inputs) (place_among (colours_of inputs) colour) colour) colour).0 (hit (colours_of inputs) colour colour within) in
     ap (λ (n : ℕ). get_or (old ++ split_members members inputs) n []) is

@@ -15,12 +15,12 @@ abbrev pub place_among : List ℤ → ℤ → ℕ
 place_among colours colour = position_or_len (λ other. int_eq other colour) colours
 
 -- the number of the communicator of a colour
-abbrev pub number_for : List ℤ → ℕ → ℤ → ℕ
-number_for colours first colour = if nat_lt (place_among colours colour) (length colours) then first + place_among colours colour else 0
+abbrev pub colour_number : List ℤ → ℕ → ℤ → ℕ
+colour_number colours first colour = if nat_lt (place_among colours colour) (length colours) then first + place_among colours colour else 0
 
 -- the number that each member gets, in member order, and the members of each new communicator, by number
 abbrev pub split_numbers : ℕ → List (List ℤ) → List ℕ
-split_numbers first inputs = map (λ ints. number_for (colours_of inputs) first (colour_in ints)) inputs
+split_numbers first inputs = map (λ ints. colour_number (colours_of inputs) first (colour_in ints)) inputs
 
 -- the members of each new communicator, by number
 abbrev pub split_members : List ℕ → List (List ℤ) → List (List ℕ)

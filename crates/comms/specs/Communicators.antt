@@ -12,8 +12,8 @@ pub record Communicators : Type 0 where
   pub given : List ((ℕ × ℕ) × List ℕ)
 
 -- the world of n ranks alone
-abbrev pub world : ℕ → Communicators
-world n = record { members = range_with_len 0 n ∷ []; given = [] }
+abbrev pub world_alone : ℕ → Communicators
+world_alone n = record { members = range_with_len 0 n ∷ []; given = [] }
 
 -- a communicator's members, if it was made
 abbrev pub members_of : Communicators → ℕ → Option (List ℕ)
@@ -25,8 +25,8 @@ given_in [] comm instance = None
 given_in (entry ∷ entries) comm instance = if entry.0.0 == comm && entry.0.1 == instance then Some entry.1 else given_in entries comm instance
 
 -- the communicator that an instance gave to a rank, 0 for none, if it was a Split or Dup
-abbrev pub number_at : Communicators → ℕ → ℕ → ℕ → Option ℕ
-number_at communicators comm instance rank =
+abbrev pub number_given_to : Communicators → ℕ → ℕ → ℕ → Option ℕ
+number_given_to communicators comm instance rank =
     option_map (λ numbers. slice_index numbers (place_of (slice_index_or communicators.members comm []) rank)) (given_in communicators.given comm instance)
 
 -- an instance of a communicator made these communicators, which take the next numbers, and gave these numbers
@@ -40,15 +40,15 @@ abbrev pub old_members : Communicators → ℕ → List ℕ
 old_members old comm = slice_index_or old.members comm []
 
 -- a Split makes a communicator for each colour, in the order of the colours
-abbrev pub IsSplit : Communicators → Communicators → ℕ → ℕ → List (List ℤ) → Type 0
-IsSplit old new comm instance inputs = Makes old new comm instance (split_members (old_members old comm) inputs) (split_numbers (length old.members) inputs)
+abbrev pub MakesByColour : Communicators → Communicators → ℕ → ℕ → List (List ℤ) → Type 0
+MakesByColour old new comm instance inputs = Makes old new comm instance (split_members (old_members old comm) inputs) (split_numbers (length old.members) inputs)
 
 -- a Dup makes one with the same members, and gives its number to each
 abbrev pub IsDup : Communicators → Communicators → ℕ → ℕ → Type 0
 IsDup old new comm instance = Makes old new comm instance (old_members old comm ∷ []) (replicate (length (old_members old comm)) (length old.members))
 
 -- each communicator has at most 255 members
-pub record AreSmall (members : List (List ℕ)) : Type 0 where
+pub record HaveFewMembers (members : List (List ℕ)) : Type 0 where
   pub at : (comm : ℕ) → length (slice_index_or members comm []) ≤ 255
 
 -- one colour and key for each member

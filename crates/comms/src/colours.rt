@@ -5,7 +5,7 @@ ghost use Rattle.std.specs.List.Sorted.{IsSorted, IsStrictlySortedBy};
 ghost use Rattle.std.specs.Ordering.{int_cmp, int_eq};
 ghost use Rattle.mpi_call.specs.Made.{by_key};
 ghost use Rattle.mpi_call.specs.Needs.{colour_in, undefined_colour};
-ghost use Rattle.comms.specs.Colours.{colours_of, number_for, place_among};
+ghost use Rattle.comms.specs.Colours.{colours_of, colour_number, place_among};
 
 use crate::numbers::Numbers;
 use mpi_call::call::Comm;
@@ -77,7 +77,7 @@ pub fn place_among(colours: &[i32], colour: i32) -> usize
 fn number_for(colours: &[i32], first: Comm, colour: i32) -> Comm
     requires rising { IsStrictlySortedBy int_cmp colours.now }
     requires fits { first + length colours.now < 2 ^ 32 }
-    ensures { result ≡ number_for colours.now first colour }
+    ensures { result ≡ colour_number colours.now first colour }
 {
     let place = place_among(colours, colour);
     if place < colours.len() {
@@ -96,7 +96,7 @@ pub fn numbers_for(
 ) -> Result<Numbers, AllocError>
     requires rising { IsStrictlySortedBy int_cmp colours.now }
     requires fits { first + length colours.now < 2 ^ 32 }
-    ensures { IfOk result (λ numbers. numbers ≡ map (λ ints. number_for colours.now first (colour_in ints)) inputs.now) }
+    ensures { IfOk result (λ numbers. numbers ≡ map (λ ints. colour_number colours.now first (colour_in ints)) inputs.now) }
 {
     let mut numbers = Numbers::new(alloc);
     for ints in inputs {

@@ -4,7 +4,7 @@ ghost use Rattle.std.specs.Option.{option_copied};
 ghost use Rattle.std.specs.List.{range_with_len, slice_index_or};
 ghost use Rattle.mpi_call.specs.Members.{place_of};
 ghost use Rattle.comms.specs.declared.communicators.TheConstants.{MOST_COMMUNICATORS};
-ghost use Rattle.comms.specs.Communicators.{given_in, members_of, number_at, world, old_members, AreColoursOf, AreSmall, IsDup, IsSplit, Makes};
+ghost use Rattle.comms.specs.Communicators.{given_in, members_of, number_given_to, world_alone, old_members, AreColoursOf, HaveFewMembers, IsDup, MakesByColour, Makes};
 
 use crate::colours::{colours_of, numbers_for};
 use crate::groups::members_by_colour;
@@ -28,19 +28,19 @@ pub struct Comms {
 }
 
 impl Model for Comms {
-    ghost use Rattle.comms.specs.Communicators.{AreSmall, Communicators};
+    ghost use Rattle.comms.specs.Communicators.{HaveFewMembers, Communicators};
 
     ghost Value = { Communicators };
 
     ghost view = { λ s. record { members = s.members.items; given = s.given.entries } };
 
-    ghost invariant = { λ s. AreSmall s.members.items };
+    ghost invariant = { λ s. HaveFewMembers s.members.items };
 }
 
 impl Comms {
     /// The world of `ranks` ranks alone.
     pub fn new(alloc: Global, ranks: u8) -> Result<Self, AllocError>
-        ensures { IfOk result (λ comms. comms ≡ world ranks) }
+        ensures { IfOk result (λ comms. comms ≡ world_alone ranks) }
     {
         let mut members = Vec::new(alloc);
         members.push(all_ranks(alloc, ranks)?)?;
@@ -72,7 +72,7 @@ impl Comms {
         requires count { length self.old.members ≤ MOST_COMMUNICATORS }
         requires first { IsNone (given_in self.old.given comm instance) }
         requires inputs { AreColoursOf (old_members self.old comm) inputs.now }
-        ensures ok { OnOk result (IsSplit self.old self.new comm instance inputs.now) }
+        ensures ok { OnOk result (MakesByColour self.old self.new comm instance inputs.now) }
         ensures err { OnErr result (self.new ≡ self.old) }
     {
         let first = self.members.len() as u32;
@@ -102,7 +102,7 @@ impl Comms {
     /// The communicator that an instance gave to a rank, 0 for none, where `split` or `dup` was called for it. Takes no
     /// memory.
     pub fn made(&self, comm: Comm, instance: u32, me: u8) -> Option<Comm>
-        ensures { result ≡ number_at self.now comm instance me }
+        ensures { result ≡ number_given_to self.now comm instance me }
     {
         let place = place_in(&self.members, comm, me);
         match self.given.get(&(comm, instance)) {
@@ -119,7 +119,7 @@ impl Comms {
         mut made: Vec<Ranks>,
         numbers: Numbers,
     ) -> Result<(), AllocError>
-        requires small { AreSmall made.items }
+        requires small { HaveFewMembers made.items }
         ensures ok { OnOk result (Makes self.old self.new comm instance made.items numbers) }
         ensures err { OnErr result (self.new ≡ self.old) }
     {

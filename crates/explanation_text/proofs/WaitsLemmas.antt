@@ -2,10 +2,10 @@
 use Rattle.std.proofs.Common.{◌≡◌, ◌∙◌, ◌<◌, ◌≤◌, ◌++◌, ◌-◌, ℕ, suc, List, [], ◌∷◌, append-nil, append_assoc, arith, drop, flat_map, get_or, length, refl, sym, take}
 use Rattle.std.proofs.Math.Seq.{take-length}
 use Rattle.run_model.specs.declared.event.Event.{Event}
-use Rattle.explanation_text.specs.WaitsTexts.{from_ranks_text, from_text}
+use Rattle.explanation_text.specs.WaitsTexts.{from_ranks_text, awaited_ranks_text}
 
 -- where there is some rank, the ranks are told
-pub some_awaited : (n : ℕ) (events : List Event) (ranks : List ℕ) → 0 < length ranks → from_text n events ranks ≡ from_ranks_text n events ranks
+pub some_awaited : (n : ℕ) (events : List Event) (ranks : List ℕ) → 0 < length ranks → awaited_ranks_text n events ranks ≡ from_ranks_text n events ranks
 some_awaited n events [] some = absurd (omega (arith, some))
 some_awaited n events (rank ∷ ranks) some = refl
 

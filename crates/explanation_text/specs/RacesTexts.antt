@@ -1,7 +1,7 @@
 -- The races text of a run.
 use Rattle.std.specs.Prelude.{ℕ, List, [], ◌∷◌, ◌++◌, codes, flat_map, length, sum_by}
 use Rattle.msg_races.specs.declared.names.Name.{Name}
-use Rattle.msg_races.specs.declared.receives.Receive.{Receive}
+use Rattle.msg_races.specs.declared.receives.WildcardReceive.{WildcardReceive}
 use Rattle.run_model.specs.declared.ending.Ending.{Ending}
 use Rattle.run_text.specs.CallTexts.{name_text}
 use Rattle.run_text.specs.RecordTexts.{ending_text}
@@ -17,7 +17,7 @@ others_text [] = codes " none"
 others_text (name ∷ names) = names_text (name ∷ names)
 
 -- receive R.K took S.K others, and the others
-abbrev pub receive_text : Receive → List ℕ
+abbrev pub receive_text : WildcardReceive → List ℕ
 receive_text receive =
     codes "receive " ++ name_text receive.rank receive.start ++ codes " took " ++ name_text receive.took.rank receive.took.start
     ++ codes " others" ++ others_text receive.others ++ codes "\n"
@@ -27,11 +27,11 @@ abbrev pub raced_in : List Name → ℕ
 raced_in [] = 0
 raced_in (name ∷ names) = 1
 
-abbrev pub raced : List Receive → ℕ
-raced receives = sum_by (λ (receive : Receive). raced_in receive.others) receives
+abbrev pub raced : List WildcardReceive → ℕ
+raced receives = sum_by (λ (receive : WildcardReceive). raced_in receive.others) receives
 
 -- a line for each receive, receives W raced Z, and how the run ended
-abbrev pub races_text : List Receive → Ending → List ℕ
+abbrev pub races_text : List WildcardReceive → Ending → List ℕ
 races_text receives ending =
     flat_map receive_text receives ++ codes "receives " ++ decimal_text (length receives) ++ codes " raced " ++ decimal_text (raced receives)
     ++ codes "\n" ++ ending_text ending

@@ -9,10 +9,11 @@ use Rattle.mpi_call.specs.Acceptance.{source_agrees}
 use Rattle.run_model.specs.declared.ending.Ending.{Ending}
 use Rattle.run_model.specs.declared.ending.Ending.TheVariants.{Halted}
 use Rattle.run_model.specs.declared.event.Event.{Event}
+use Rattle.run_model.specs.Allowed.{Probe, probe_of}
 use Rattle.run_model.specs.Lists.{world}
 use Rattle.run_model.specs.Views.{View, view_of}
 use Rattle.run_text.specs.CallTexts.{call_text, name_text}
-use Rattle.run_text.specs.GroupTexts.{group_text}
+use Rattle.run_text.specs.GroupTexts.{spaced_ranks_text}
 use Rattle.run_text.specs.RecordTexts.{ending_text}
 use Rattle.wait_graph.specs.declared.difference.Difference.{Difference}
 use Rattle.wait_graph.specs.declared.difference.Difference.TheVariants.{Comm, Source as BySource, Tag as ByTag}
@@ -46,9 +47,9 @@ abbrev pub from_ranks_text : ℕ → List Event → List ℕ → List ℕ
 from_ranks_text n G ranks = codes "from" ++ flat_map (awaited_text n G) ranks ++ codes "\n"
 
 -- the same; from none, where there is nobody
-abbrev pub from_text : ℕ → List Event → List ℕ → List ℕ
-from_text n G [] = codes "from none\n"
-from_text n G (rank ∷ ranks) = from_ranks_text n G (rank ∷ ranks)
+abbrev pub awaited_ranks_text : ℕ → List Event → List ℕ → List ℕ
+awaited_ranks_text n G [] = codes "from none\n"
+awaited_ranks_text n G (rank ∷ ranks) = from_ranks_text n G (rank ∷ ranks)
 
 -- taken S.K at R:C, where a message of the sender was taken
 abbrev pub taken_text : ℕ → Option Taken → List ℕ
@@ -75,31 +76,32 @@ open_text comm source tag found =
     codes "open " ++ name_text found.name.rank found.name.start ++ codes " tag=" ++ decimal_text found.tag ++ codes " differs in"
     ++ flat_map difference_text (differences comm source tag found.comm found.name.rank found.tag) ++ codes "\n"
 
--- the messages that a receive or a probe of rank me has missed, and those that are open to it
-abbrev pub messages_text : ℕ → List Event → ℕ → List Open → ℕ → Source → Tag → List ℕ
-messages_text n G me opens comm source tag =
-    taken_texts (view_of G me) me comm source tag (world n 0) ++ flat_map (open_text comm source tag) opens
+-- the messages that a receive or a probe has missed, and those that are open to it
+abbrev pub messages_text : ℕ → List Event → List Open → Probe → List ℕ
+messages_text n G opens probe =
+    taken_texts (view_of G probe.me) probe.me probe.comm probe.source probe.tag (world n 0)
+    ++ flat_map (open_text probe.comm probe.source probe.tag) opens
 
 -- the same, where the call is a receive or a probe
 abbrev pub call_messages_text : ℕ → List Event → ℕ → List Open → Call → List ℕ
-call_messages_text n G me opens (Post comm source tag room) = messages_text n G me opens comm source tag
-call_messages_text n G me opens (Peek comm source tag wait) = messages_text n G me opens comm source tag
+call_messages_text n G me opens (Post comm source tag room) = messages_text n G opens (probe_of me comm source tag)
+call_messages_text n G me opens (Peek comm source tag wait) = messages_text n G opens (probe_of me comm source tag)
 call_messages_text n G me opens call = []
 
 -- one thing that rank me waits for: the start, from whom it could come, what was taken and what is open
 abbrev pub wait_text : ℕ → List Event → ℕ → List Open → Wait → List ℕ
 wait_text n G me opens wait =
-    start_text wait.start wait.call ++ from_text n G wait.awaited ++ call_messages_text n G me opens wait.call
+    start_text wait.start wait.call ++ awaited_ranks_text n G wait.awaited ++ call_messages_text n G me opens wait.call
 
 -- rank R call K CALL
-abbrev pub head_text : Blocked → List ℕ
-head_text blocked =
+abbrev pub blocked_head_text : Blocked → List ℕ
+blocked_head_text blocked =
     codes "rank " ++ decimal_text blocked.rank ++ codes " call " ++ decimal_text blocked.number ++ codes " " ++ call_text blocked.call ++ codes "\n"
 
 -- a blocked rank, and what it waits for
 abbrev pub blocked_text : ℕ → List Event → Blocked → List ℕ
 blocked_text n G blocked =
-    head_text blocked ++ flat_map (wait_text n G blocked.rank (opens_to n G blocked.rank)) blocked.waits
+    blocked_head_text blocked ++ flat_map (wait_text n G blocked.rank (opens_to n G blocked.rank)) blocked.waits
 
 -- the ranks that wait in a run that is stuck
 abbrev pub waiting_text : ℕ → List Event → Graph → List ℕ
@@ -107,11 +109,11 @@ waiting_text n events graph = flat_map (blocked_text n (going events)) graph.blo
 
 -- cycle R R ..
 abbrev pub cycle_text : List ℕ → List ℕ
-cycle_text ranks = codes "cycle" ++ group_text ranks ++ codes "\n"
+cycle_text ranks = codes "cycle" ++ spaced_ranks_text ranks ++ codes "\n"
 
 -- hopeless R R ..
 abbrev pub hopeless_ranks_text : List ℕ → List ℕ
-hopeless_ranks_text ranks = codes "hopeless" ++ group_text ranks ++ codes "\n"
+hopeless_ranks_text ranks = codes "hopeless" ++ spaced_ranks_text ranks ++ codes "\n"
 
 -- the same, where there are any
 abbrev pub hopeless_text : List ℕ → List ℕ

@@ -1,7 +1,7 @@
 //! The diff text of two histories of one program.
 ghost use Rattle.std.specs.Prelude.{◌≡◌, ◌++◌, OnOk, IfOk, flat_map, map, slice_get};
-ghost use Rattle.view_diff.specs.Opens.{got_from, open_at};
-ghost use Rattle.explanation_text.specs.DiffTexts.{answer_text, answers_text, any_text, at_text, diff_text, first_text, given_text, gots_text, made_text, named_text, open_text, parting_text, parts_text, rank_text, way_text};
+ghost use Rattle.view_diff.specs.Opens.{got_from, open_receives_before};
+ghost use Rattle.explanation_text.specs.DiffTexts.{answer_text, answers_text, any_source_text, call_at_text, diff_text, first_text, given_text, gots_text, made_text, named_text, open_text, parting_text, partings_text, compared_rank_text, way_text};
 
 use crate::races::push_names;
 use mpi_call::call::Call;
@@ -12,8 +12,8 @@ use run_model::event::Event;
 use run_model::history::History;
 use run_text::call_text::{push_call, push_reply};
 use std::alloc::{AllocError, Global};
-use view_diff::compared::{Compared, Comparison, Way};
-use view_diff::opens::{Start, got_from, open_at};
+use view_diff::compared::{Compared, Comparison, ViewRelation, parts};
+use view_diff::opens::{OpenStart, got_from, open_at};
 use wiz_base::{Bytes, push_decimal, push_text};
 
 /// The most messages that are named after `any`.
@@ -44,7 +44,7 @@ fn push_ranks(
     other: &ByRank<'_>,
     ranks: &[Compared],
 ) -> Result<(), AllocError>
-    ensures { OnOk result (out.new ≡ out.old ++ flat_map (rank_text one.now other.now) ranks.now) }
+    ensures { OnOk result (out.new ≡ out.old ++ flat_map (compared_rank_text one.now other.now) ranks.now) }
 {
     let mut rest = ranks;
     while let [rank, after @ ..] = rest {
@@ -62,7 +62,7 @@ fn push_rank(
     other: &ByRank<'_>,
     rank: &Compared,
 ) -> Result<(), AllocError>
-    ensures { OnOk result (out.new ≡ out.old ++ rank_text one.now other.now rank.now) }
+    ensures { OnOk result (out.new ≡ out.old ++ compared_rank_text one.now other.now rank.now) }
 {
     push_text(out, b"rank ")?;
     push_decimal(out, rank.rank as u64)?;
@@ -86,20 +86,20 @@ fn push_way(
     own: &[&Event],
     other: &[&Event],
     number: u32,
-    way: Way,
+    way: ViewRelation,
 ) -> Result<(), AllocError>
     ensures { let mine = map (λ event. (event.now.call, event.now.reply)) own.now in
         let others = map (λ event. (event.now.call, event.now.reply)) other.now in
         OnOk result (out.new ≡ out.old ++ way_text mine others number way) }
 {
     match way {
-        Way::Alike => push_text(out, b"\n"),
-        Way::First => {
+        ViewRelation::Alike => push_text(out, b"\n"),
+        ViewRelation::First => {
             push_text(out, b" first\n")?;
             push_parting(alloc, out, own, other, number)?;
             Ok(())
         }
-        Way::Follows => {
+        ViewRelation::Follows => {
             push_text(out, b" follows\n")?;
             push_parting(alloc, out, own, other, number)?;
             Ok(())
@@ -166,7 +166,7 @@ fn push_gots(
 fn push_at(out: &mut Bytes, own: &[&Event], other: &[&Event], number: u32) -> Result<(), AllocError>
     ensures { let mine = map (λ event. (event.now.call, event.now.reply)) own.now in
         let others = map (λ event. (event.now.call, event.now.reply)) other.now in
-        OnOk result (out.new ≡ out.old ++ at_text number (slice_get mine number) (slice_get others number)) }
+        OnOk result (out.new ≡ out.old ++ call_at_text number (slice_get mine number) (slice_get others number)) }
 {
     match own.get(number as usize) {
         Some(event) => push_made(out, number as u64, &event.call),
@@ -194,13 +194,13 @@ fn push_opens(
     own: &[&Event],
     number: usize,
 ) -> Result<(), AllocError>
-    ensures { OnOk result (out.new ≡ out.old ++ flat_map open_text (open_at (map (λ event. (event.now.call, event.now.reply)) own.now) number)) }
+    ensures { OnOk result (out.new ≡ out.old ++ flat_map open_text (open_receives_before (map (λ event. (event.now.call, event.now.reply)) own.now) number)) }
 {
     let starts = open_at(alloc, own, number)?;
     push_starts(out, &starts)
 }
 
-fn push_starts(out: &mut Bytes, starts: &[Start]) -> Result<(), AllocError>
+fn push_starts(out: &mut Bytes, starts: &[OpenStart]) -> Result<(), AllocError>
     ensures { OnOk result (out.new ≡ out.old ++ flat_map open_text (map (λ start. (start.number, start.call.now)) starts.now)) }
 {
     let mut rest = starts;
@@ -244,7 +244,7 @@ fn push_got(
     seen: &[&Event],
     number: usize,
 ) -> Result<(), AllocError>
-    ensures { OnOk result (out.new ≡ out.old ++ any_text sign.now (got_from (map (λ event. (event.now.call, event.now.reply)) seen.now) number)) }
+    ensures { OnOk result (out.new ≡ out.old ++ any_source_text sign.now (got_from (map (λ event. (event.now.call, event.now.reply)) seen.now) number)) }
 {
     let names = got_from(alloc, seen, number)?;
     push_any(out, sign, names.as_slice())
@@ -252,7 +252,7 @@ fn push_got(
 
 /// A line of messages, if there are any.
 fn push_any(out: &mut Bytes, sign: &[u8], names: &[Name]) -> Result<(), AllocError>
-    ensures { OnOk result (out.new ≡ out.old ++ any_text sign.now names.now) }
+    ensures { OnOk result (out.new ≡ out.old ++ any_source_text sign.now names.now) }
 {
     match names {
         [] => Ok(()),
@@ -278,9 +278,9 @@ fn push_named(out: &mut Bytes, names: &[Name]) -> Result<(), AllocError>
 
 /// Where the histories part first, if they do.
 fn push_parts(out: &mut Bytes, ranks: &Comparison) -> Result<(), AllocError>
-    ensures { OnOk result (out.new ≡ out.old ++ parts_text ranks.now) }
+    ensures { OnOk result (out.new ≡ out.old ++ partings_text ranks.now) }
 {
-    if !ranks.parts() {
+    if !parts(ranks) {
         return push_text(out, b"same\n");
     }
     push_text(out, b"parts")?;

@@ -3,7 +3,7 @@ ghost use Rattle.std.specs.Prelude.{◌≡◌, ◌++◌, OnOk, IfOk, flat_map};
 ghost use Rattle.explanation_text.specs.RacesTexts.{names_text, others_text, raced, races_text, receive_text};
 
 use msg_races::names::Name;
-use msg_races::receives::{Receive, Receives};
+use msg_races::receives::{Receives, WildcardReceive};
 use run_model::ending::Ending;
 use run_text::call_text::push_name;
 use run_text::recording::push_ending;
@@ -27,7 +27,7 @@ pub fn races_text(alloc: Global, receives: &Receives, ending: &Ending) -> Result
     Ok(out)
 }
 
-fn push_receives(out: &mut Bytes, receives: &[Receive]) -> Result<(), AllocError>
+fn push_receives(out: &mut Bytes, receives: &[WildcardReceive]) -> Result<(), AllocError>
     ensures { OnOk result (out.new ≡ out.old ++ flat_map receive_text receives.now) }
 {
     let mut rest = receives;
@@ -39,7 +39,7 @@ fn push_receives(out: &mut Bytes, receives: &[Receive]) -> Result<(), AllocError
 }
 
 /// A receive on a line of its own.
-fn push_receive(out: &mut Bytes, receive: &Receive) -> Result<(), AllocError>
+fn push_receive(out: &mut Bytes, receive: &WildcardReceive) -> Result<(), AllocError>
     ensures { OnOk result (out.new ≡ out.old ++ receive_text receive.now) }
 {
     push_text(out, b"receive ")?;
@@ -74,7 +74,7 @@ pub(crate) fn push_names(out: &mut Bytes, names: &[Name]) -> Result<(), AllocErr
 }
 
 /// How many receives have others.
-fn raced(receives: &[Receive]) -> usize
+fn raced(receives: &[WildcardReceive]) -> usize
     ensures { result ≡ raced receives.now }
 {
     let mut count = 0;

@@ -3,13 +3,14 @@ ghost use Rattle.std.specs.Prelude.{◌≡◌, ◌<◌, ◌++◌, ℕ, List, [],
 ghost use Rattle.mpi_call.specs.Acceptance.{source_agrees};
 ghost use Rattle.causes.specs.Clocks.{AreOfRanks};
 ghost use Rattle.run_model.specs.declared.event.Event.{Event};
+ghost use Rattle.run_model.specs.Allowed.{probe_of};
 ghost use Rattle.run_model.specs.Lists.{world};
 ghost use Rattle.run_model.specs.Views.{view_of};
 ghost use Rattle.wait_graph.specs.declared.difference.Difference.TheVariants.{Comm as ByComm, Source as BySource, Tag as ByTag};
-ghost use Rattle.wait_graph.specs.Opens.{differences, opens_to, unless};
+ghost use Rattle.wait_graph.specs.Opens.{differences, opens_to, difference_unless};
 ghost use Rattle.wait_graph.specs.Register.{IsRegister};
 ghost use Rattle.wait_graph.specs.Taken.{taken_last};
-ghost use Rattle.explanation_text.specs.WaitsTexts.{awaited_text, blocked_text, call_messages_text, cycle_text, difference_text, ended_text, from_ranks_text, from_text, graph_text, head_text, hopeless_ranks_text, hopeless_text, messages_text, open_text, start_text, stuck_text, taken_text, taken_text_from, taken_texts, wait_text, waiting_text, waits_text};
+ghost use Rattle.explanation_text.specs.WaitsTexts.{awaited_text, blocked_text, call_messages_text, cycle_text, difference_text, ended_text, from_ranks_text, awaited_ranks_text, graph_text, blocked_head_text, hopeless_ranks_text, hopeless_text, messages_text, open_text, start_text, stuck_text, taken_text, taken_text_from, taken_texts, wait_text, waiting_text, waits_text};
 
 use mpi_call::acceptance::{is_source_of, is_tag_of};
 use mpi_call::call::{Call, Comm, Halt, Source, Tag};
@@ -156,7 +157,7 @@ fn push_blocked(
 }
 
 fn push_head(out: &mut Bytes, blocked: &Blocked) -> Result<(), AllocError>
-    ensures { OnOk result (out.new ≡ out.old ++ head_text blocked.now) }
+    ensures { OnOk result (out.new ≡ out.old ++ blocked_head_text blocked.now) }
 {
     push_text(out, b"rank ")?;
     push_decimal(out, blocked.rank as u64)?;
@@ -218,7 +219,7 @@ fn push_start(out: &mut Bytes, start: Option<u32>, call: &Call) -> Result<(), Al
 
 /// The ranks for whom it waits, and which of them have ended.
 fn push_from(out: &mut Bytes, register: &Register, awaited: &[u8]) -> Result<(), AllocError>
-    ensures { OnOk result ((n : ℕ) (events : List Event) → IsRegister n events register.now → out.new ≡ out.old ++ from_text n events awaited.now) }
+    ensures { OnOk result ((n : ℕ) (events : List Event) → IsRegister n events register.now → out.new ≡ out.old ++ awaited_ranks_text n events awaited.now) }
 {
     match awaited {
         [] => push_text(out, b"from none\n"),
@@ -300,7 +301,7 @@ fn push_messages(
     source: &Source,
     tag: &Tag,
 ) -> Result<(), AllocError>
-    ensures { OnOk result ((n : ℕ) (events : List Event) → IsRegister n events register.now → ranks.now ≡ world n 0 → out.new ≡ out.old ++ messages_text n events me opens.now comm source.now tag.now) }
+    ensures { OnOk result ((n : ℕ) (events : List Event) → IsRegister n events register.now → ranks.now ≡ world n 0 → out.new ≡ out.old ++ messages_text n events opens.now (probe_of me comm source.now tag.now)) }
 {
     push_all_taken(out, ranks, register, me, comm, source, tag)?;
     push_opens(out, opens, comm, source, tag)
@@ -403,7 +404,7 @@ fn push_open(
 
 /// A word for each part that does not agree.
 fn push_differences(out: &mut Bytes, comm: bool, source: bool, tag: bool) -> Result<(), AllocError>
-    ensures { OnOk result (out.new ≡ out.old ++ flat_map difference_text (unless comm ByComm ++ (unless source BySource ++ unless tag ByTag))) }
+    ensures { OnOk result (out.new ≡ out.old ++ flat_map difference_text (difference_unless comm ByComm ++ (difference_unless source BySource ++ difference_unless tag ByTag))) }
 {
     if !comm {
         push_text(out, b" comm")?;

@@ -9,7 +9,7 @@ use Rattle.mpi_call.specs.declared.call.Halt.TheVariants.{Stuck}
 use Rattle.mpi_call.specs.declared.reply.Reply.TheVariants.{Stopped}
 use Rattle.run_model.specs.declared.event.Event.{Event}
 use Rattle.run_model.specs.Allowed.{IsAllowed}
-use Rattle.run_model.specs.Due.{halt_in, halted, or_else}
+use Rattle.run_model.specs.Due.{halt_of_reply, halted, or_else}
 use Rattle.run_model.specs.Program.{Standing}
 use Rattle.run_model.specs.Run.{IsEvent, IsRun}
 use Rattle.run_model.specs.Views.{Next}
@@ -20,7 +20,7 @@ use Rattle.picked_runs.specs.declared.turn.Pick.TheVariants.{First, Sender, Inde
 use Rattle.picked_runs.specs.Picks.{picked_event}
 use Rattle.picked_runs.specs.Picked.{ArePicked, IsPicked, IsPickedEvent, later_picks, next_pick}
 use Rattle.mpi_machine.specs.Turns.{MachineState}
-use Rattle.explore.specs.Courses.{IsAhead, IsAnswered, IsCourse, IsHeldBack}
+use Rattle.explore.specs.Courses.{IsAhead, IsAnswered, IsCourse, IsTurnHeldBack}
 use Rattle.explore.proofs.Recorded.{halted-append}
 
 -- 1. the event at a position
@@ -66,7 +66,7 @@ free_take events zero many h free = refl
 free_take [] (suc few) many h free = refl
 free_take (event ∷ events) (suc few) zero h free = absurd (omega (arith, h))
 free_take (event ∷ events) (suc few) (suc many) h free =
-    let parts = both_none (halt_in event.reply) (halted (take many events)) free in
+    let parts = both_none (halt_of_reply event.reply) (halted (take many events)) free in
     let rest = free_take events few many (omega (arith, h)) parts.1 in
     ap (λ o. or_else o (halted (take few events))) parts.0 ∙ rest
 
@@ -80,12 +80,12 @@ again_asked next n events at event run there =
 
 stuck_halts : (before : List Event) (event : Event) → event.reply ≡ Stopped Stuck → halted (before ++ event ∷ []) ≡ None → ⊥
 stuck_halts before event stuck free =
-    let last : or_else (halt_in event.reply) None ≡ None = (both_none (halted before) (halted (event ∷ [])) (sym (halted-append before (event ∷ [])) ∙ free)).1 in
-    let no : Some Stuck ≡ None = ap (λ r. or_else (halt_in r) None) (sym stuck) ∙ last in
+    let last : or_else (halt_of_reply event.reply) None ≡ None = (both_none (halted before) (halted (event ∷ [])) (sym (halted-append before (event ∷ [])) ∙ free)).1 in
+    let no : Some Stuck ≡ None = ap (λ r. or_else (halt_of_reply r) None) (sym stuck) ∙ last in
     absurd (cc)
 
 not_held : (next : Next) (n : ℕ) (before after : List Event) (event : Event) (pick : Pick) → IsPickedEvent n before event pick
-    → IsAllowed next n before event.rank event.call event.reply → halted (before ++ event ∷ []) ≡ None → IsHeldBack n before after event.rank event.call pick → ⊥
+    → IsAllowed next n before event.rank event.call event.reply → halted (before ++ event ∷ []) ≡ None → IsTurnHeldBack n before after (record { rank = event.rank; pick = pick }) event.call → ⊥
 not_held next n before after event First picked allowed free held =
     stuck_halts before event (cannot_go next n before event.rank event.call event.reply (held.held refl) allowed) free
 not_held next n before after event (Sender sender) picked allowed free held =
@@ -99,7 +99,7 @@ not_held next n before after event (Index index) picked allowed free held =
 
 pub again_made : (next : Next) (n : ℕ) (picks : List Pick) (events after : List Event) (at : ℕ) (event : Event) (answered : Bool) → IsPicked next n picks events
     → slice_get events at ≡ Some event → halted (take (at + 1) events) ≡ None
-    → MatchBool answered (IsAnswered next n (take at events) after event.rank event.call (slice_index_or picks at First)) (IsHeldBack n (take at events) after event.rank event.call (slice_index_or picks at First))
+    → MatchBool answered (IsAnswered next n (take at events) after (record { rank = event.rank; pick = (slice_index_or picks at First) }) event.call) (IsTurnHeldBack n (take at events) after (record { rank = event.rank; pick = (slice_index_or picks at First) }) event.call)
     → after ≡ take (at + 1) events
 again_made next n picks events after at event true picked there free made =
     let is = pick_there n [] picks events at event picked.along there in
@@ -141,7 +141,7 @@ on_ok_three (Err e) A B C D f a b c = tt
 
 -- a machine that answered one more call is ahead of the runs
 pub ahead_by : {P R : Type 0} (next : Next) (standing : R → Standing P) (program : P) (n : ℕ) (events : List Event) (one two : MachineState P) (runs : List R) (rank : ℕ) (call : Call) (pick : Pick)
-    → IsCourse standing program n events one runs → two.program ≡ one.program → two.ranks ≡ one.ranks → IsAnswered next n events two.events rank call pick
+    → IsCourse standing program n events one runs → two.program ≡ one.program → two.ranks ≡ one.ranks → IsAnswered next n events two.events (record { rank = rank; pick = pick }) call
     → IsAhead standing program n events two runs
 ahead_by next standing program n events one two runs rank call pick is programs ranks answered =
     record {

@@ -8,17 +8,17 @@ use Rattle.run_model.specs.declared.event.Event.{Event}
 use Rattle.run_model.specs.Allowed.{IsStuck, can_go}
 use Rattle.run_model.specs.Chosen.{chosen_reply}
 use Rattle.run_model.specs.Lists.{world}
-use Rattle.run_model.specs.Serial.{call_after, goes, is_stuck, others_wait}
+use Rattle.run_model.specs.Serial.{call_after, next_can_go, is_stuck, others_wait}
 use Rattle.run_model.specs.Views.{Next, view_of}
 use Rattle.picked_runs.specs.declared.turn.Pick.{Pick}
 use Rattle.picked_runs.specs.declared.turn.Pick.TheVariants.{First}
 use Rattle.picked_runs.specs.Picks.{has_pick, picked_reply}
 use Rattle.picked_runs.proofs.Firsts.{first_event}
 use Rattle.mpi_machine.specs.Picking.{after_pick, picked_of}
-use Rattle.mpi_machine.specs.Turns.{MachineState, after_answer, answer_by, answer_of, is_answered, stage_of}
+use Rattle.mpi_machine.specs.Turns.{MachineState, after_answer, answer_by, attempt_answer, is_answered, stage_of}
 use Rattle.mpi_machine.specs.declared.answer.Answer.{Answer}
 use Rattle.mpi_machine.specs.declared.answer.Answer.TheVariants.{Replied, Wait}
-use Rattle.explore.specs.Courses.{IsAnswered, IsHeldBack}
+use Rattle.explore.specs.Courses.{IsAnswered, IsTurnHeldBack}
 
 -- 1. no call can go
 
@@ -40,9 +40,9 @@ not_goes false h = refl
 
 stuck_is : (next : Next) (n : ℕ) (events : List Event) → is_stuck next n events ≡ true → IsStuck next n events
 stuck_is next n events h rank call below asked =
-    let one : not (goes n events rank (call_after next n events rank)) ≡ true =
-    all_world (λ other. not (goes n events other (call_after next n events other))) n 0 rank h (omega arith) (omega (arith, below)) in
-    let F : Option Call → Type 0 = λ c. not (goes n events rank c) ≡ true in
+    let one : not (next_can_go n events rank (call_after next n events rank)) ≡ true =
+    all_world (λ other. not (next_can_go n events other (call_after next n events other))) n 0 rank h (omega arith) (omega (arith, below)) in
+    let F : Option Call → Type 0 = λ c. not (next_can_go n events rank c) ≡ true in
     not_goes (can_go n events rank (view_of events rank) call) (subst F asked one)
 
 -- 2. attempts that pick nothing
@@ -60,8 +60,8 @@ or_none true b h = absurd (cc)
 or_none false b h = refl
 
 pub first_answered : {P : Type 0} (next : Next) (one two : MachineState P) (rank : ℕ) (call : Call) (reply : Reply)
-    → Replied reply ≡ answer_of next one.ranks one.events one.kept rank call → two ≡ after_answer one rank call (Replied reply)
-    → IsAnswered next one.ranks one.events two.events rank call First
+    → Replied reply ≡ attempt_answer next one.ranks one.events one.kept rank call → two ≡ after_answer one rank call (Replied reply)
+    → IsAnswered next one.ranks one.events two.events (record { rank = rank; pick = First }) call
 first_answered {P} next one two rank call reply said after =
     let goes_by : Bool = can_go one.ranks one.events rank (view_of one.events rank) call in
     let held_by : Bool = is_stuck next one.ranks one.events && others_wait next one.ranks (stage_of one.events one.kept) rank in
@@ -76,8 +76,8 @@ first_answered {P} next one two rank call reply said after =
     }
 
 pub first_held : {P : Type 0} (next : Next) (one two : MachineState P) (rank : ℕ) (call : Call)
-    → Wait ≡ answer_of next one.ranks one.events one.kept rank call → two ≡ after_answer one rank call Wait
-    → IsHeldBack one.ranks one.events two.events rank call First
+    → Wait ≡ attempt_answer next one.ranks one.events one.kept rank call → two ≡ after_answer one rank call Wait
+    → IsTurnHeldBack one.ranks one.events two.events (record { rank = rank; pick = First }) call
 first_held {P} next one two rank call said after =
     let goes_by : Bool = can_go one.ranks one.events rank (view_of one.events rank) call in
     let held_by : Bool = is_stuck next one.ranks one.events && others_wait next one.ranks (stage_of one.events one.kept) rank in
@@ -100,7 +100,7 @@ none_picked false made h = refl
 
 pub pick_answered : {P : Type 0} (next : Next) (one two : MachineState P) (rank : ℕ) (call : Call) (pick : Pick) (reply : Reply) → pick ≢ First
     → Some reply ≡ picked_of one.ranks one.events rank call pick → two ≡ after_pick one rank call pick (Some reply)
-    → IsAnswered next one.ranks one.events two.events rank call pick
+    → IsAnswered next one.ranks one.events two.events (record { rank = rank; pick = pick }) call
 pick_answered {P} next one two rank call pick reply apart said after =
     record {
       events_are = ap (λ (m : MachineState P). m.events) after;
@@ -110,7 +110,7 @@ pick_answered {P} next one two rank call pick reply apart said after =
 
 pub pick_held : {P : Type 0} (one two : MachineState P) (rank : ℕ) (call : Call) (pick : Pick) → pick ≢ First
     → None ≡ picked_of one.ranks one.events rank call pick → two ≡ after_pick one rank call pick None
-    → IsHeldBack one.ranks one.events two.events rank call pick
+    → IsTurnHeldBack one.ranks one.events two.events (record { rank = rank; pick = pick }) call
 pick_held {P} one two rank call pick apart said after =
     record {
       events_are = ap (λ (m : MachineState P). m.events) after;
@@ -121,8 +121,8 @@ pick_held {P} one two rank call pick apart said after =
 -- 4. whether there was an answer
 
 pub first_done : {P : Type 0} (next : Next) (one two : MachineState P) (rank : ℕ) (call : Call) (answer : Answer) (said : Bool)
-    → MatchBool said ((reply : Reply) × (answer ≡ Replied reply)) (answer ≡ Wait) → answer ≡ answer_of next one.ranks one.events one.kept rank call
-    → two ≡ after_answer one rank call answer → MatchBool said (IsAnswered next one.ranks one.events two.events rank call First) (IsHeldBack one.ranks one.events two.events rank call First)
+    → MatchBool said ((reply : Reply) × (answer ≡ Replied reply)) (answer ≡ Wait) → answer ≡ attempt_answer next one.ranks one.events one.kept rank call
+    → two ≡ after_answer one rank call answer → MatchBool said (IsAnswered next one.ranks one.events two.events (record { rank = rank; pick = First }) call) (IsTurnHeldBack one.ranks one.events two.events (record { rank = rank; pick = First }) call)
 first_done {P} next one two rank call answer true is said after =
     first_answered next one two rank call is.0 (sym is.1 ∙ said) (after ∙ ap (after_answer one rank call) is.1)
 first_done {P} next one two rank call answer false is said after =
@@ -130,7 +130,7 @@ first_done {P} next one two rank call answer false is said after =
 
 pub pick_done : {P : Type 0} (next : Next) (one two : MachineState P) (rank : ℕ) (call : Call) (pick : Pick) (answer : Option Reply) (said : Bool) → pick ≢ First
     → said ≡ is_some answer → answer ≡ picked_of one.ranks one.events rank call pick → two ≡ after_pick one rank call pick answer
-    → MatchBool said (IsAnswered next one.ranks one.events two.events rank call pick) (IsHeldBack one.ranks one.events two.events rank call pick)
+    → MatchBool said (IsAnswered next one.ranks one.events two.events (record { rank = rank; pick = pick }) call) (IsTurnHeldBack one.ranks one.events two.events (record { rank = rank; pick = pick }) call)
 pick_done {P} next one two rank call pick (Some reply) true apart is said after = pick_answered next one two rank call pick reply apart said after
 pick_done {P} next one two rank call pick None false apart is said after = pick_held one two rank call pick apart said after
 pick_done {P} next one two rank call pick (Some reply) false apart is said after = absurd (cc)

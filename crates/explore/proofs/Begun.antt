@@ -7,38 +7,38 @@ use Rattle.mpi_call.specs.declared.reply.Reply.{Reply}
 use Rattle.run_model.specs.declared.event.Event.{Event}
 use Rattle.run_model.specs.Program.{IsAfter, Standing}
 use Rattle.run_model.specs.Run.{IsRun}
-use Rattle.run_model.specs.Serial.{at_first, call_after}
+use Rattle.run_model.specs.Serial.{first_stage, call_after}
 use Rattle.run_model.specs.Views.{Next}
 use Rattle.picked_runs.specs.declared.turn.Pick.{Pick}
 use Rattle.picked_runs.specs.declared.turn.Turn.{Turn}
 use Rattle.picked_runs.specs.Picked.{IsPicked}
 use Rattle.picked_runs.specs.Turns.{take_turns}
-use Rattle.mpi_machine.specs.Turns.{MachineState, StandsAt, kept_of}
+use Rattle.mpi_machine.specs.Turns.{MachineState, IsAtStage, waiting_call}
 use Rattle.srr_record.specs.Recordings.{AreRuns}
 use Rattle.srr_record.specs.Rounds.{GoesByTurns}
 use Rattle.srr_record.proofs.Running.{runs_set}
-use Rattle.explore.specs.Courses.{IsAnswered, IsCourse, IsHeldBack}
-use Rattle.explore.specs.Explored.{made_by}
+use Rattle.explore.specs.Courses.{IsAnswered, IsCourse, IsTurnHeldBack}
+use Rattle.explore.specs.Explored.{events_of_turns}
 
-none_kept : (n rank : ℕ) → is_some (kept_of (replicate n None) rank) ≡ false
+none_kept : (n rank : ℕ) → is_some (waiting_call (replicate n None) rank) ≡ false
 none_kept zero rank = refl
 none_kept (suc n) zero = refl
 none_kept (suc n) (suc rank) = none_kept n rank
 
-first_stands : {P : Type 0} (program : P) (n : ℕ) → StandsAt (record { program = program; ranks = n; events = []; kept = replicate n None }) at_first
+first_stands : {P : Type 0} (program : P) (n : ℕ) → IsAtStage (record { program = program; ranks = n; events = []; kept = replicate n None }) first_stage
 first_stands program n = record { events = refl; waiting = λ rank. sym (none_kept n rank) }
 
 pub course_after : {P R : Type 0} (next : P → Next) (standing : R → Standing P) (program : P) (n ranks : ℕ) (turns : List Turn) (first after : MachineState P) (runs : List R)
     → first ≡ record { program = program; ranks = ranks; events = []; kept = replicate ranks None } → ranks ≡ n
     → GoesByTurns (next first.program) turns first after → AreRuns standing first.program first.ranks after.events runs
-    → IsCourse standing program n (made_by (next program) n turns) after runs
+    → IsCourse standing program n (events_of_turns (next program) n turns) after runs
 course_after {P} {R} next standing program n ranks turns first after runs is many goes are =
     let p : first.program ≡ program = ap (λ (m : MachineState P). m.program) is in
     let r : first.ranks ≡ n = ap (λ (m : MachineState P). m.ranks) is ∙ many in
-    let S : MachineState P → Type 0 = λ m. StandsAt m at_first in
-    let there = goes.stands at_first (subst S (sym is) (first_stands program ranks)) in
-    let E : P → ℕ → List Event = λ q m. (take_turns (next q) m at_first turns).events in
-    let events : after.events ≡ made_by (next program) n turns = sym there.events ∙ (ap (λ q. E q first.ranks) p ∙ ap (E program) r) in
+    let S : MachineState P → Type 0 = λ m. IsAtStage m first_stage in
+    let there = goes.stands first_stage (subst S (sym is) (first_stands program ranks)) in
+    let E : P → ℕ → List Event = λ q m. (take_turns (next q) m first_stage turns).events in
+    let events : after.events ≡ events_of_turns (next program) n turns = sym there.events ∙ (ap (λ q. E q first.ranks) p ∙ ap (E program) r) in
     let A : P → Type 0 = λ q. AreRuns standing q first.ranks after.events runs in
     let B : ℕ → Type 0 = λ m. AreRuns standing program m after.events runs in
     let C : List Event → Type 0 = λ l. AreRuns standing program n l runs in
@@ -86,16 +86,16 @@ asked_there {P} {R} next standing program n events machine runs rank call is ask
 
 pub answered_there : {P R : Type 0} (next : P → Next) (standing : R → Standing P) (program : P) (n : ℕ) (events : List Event) (machine : MachineState P) (runs : List R) (after : List Event)
     (rank : ℕ) (call : Call) (pick : Pick) → IsCourse standing program n events machine runs
-    → IsAnswered (next machine.program) machine.ranks machine.events after rank call pick → IsAnswered (next program) n events after rank call pick
+    → IsAnswered (next machine.program) machine.ranks machine.events after (record { rank = rank; pick = pick }) call → IsAnswered (next program) n events after (record { rank = rank; pick = pick }) call
 answered_there {P} {R} next standing program n events machine runs after rank call pick is answered =
-    let F : P → ℕ → List Event → Type 0 = λ q m l. IsAnswered (next q) m l after rank call pick in
+    let F : P → ℕ → List Event → Type 0 = λ q m l. IsAnswered (next q) m l after (record { rank = rank; pick = pick }) call in
     subst (λ l. F program n l) is.events_are (subst (λ m. F program m machine.events) is.ranks_are (subst (λ q. F q machine.ranks machine.events) is.program_is answered))
 
 pub held_there : {P R : Type 0} (standing : R → Standing P) (program : P) (n : ℕ) (events : List Event) (machine : MachineState P) (runs : List R) (after : List Event)
     (rank : ℕ) (call : Call) (pick : Pick) → IsCourse standing program n events machine runs
-    → IsHeldBack machine.ranks machine.events after rank call pick → IsHeldBack n events after rank call pick
+    → IsTurnHeldBack machine.ranks machine.events after (record { rank = rank; pick = pick }) call → IsTurnHeldBack n events after (record { rank = rank; pick = pick }) call
 held_there standing program n events machine runs after rank call pick is held =
-    let F : ℕ → List Event → Type 0 = λ m l. IsHeldBack m l after rank call pick in
+    let F : ℕ → List Event → Type 0 = λ m l. IsTurnHeldBack m l after (record { rank = rank; pick = pick }) call in
     subst (λ l. F n l) is.events_are (subst (λ m. F m machine.events) is.ranks_are held)
 
 pub course_asked : {P R : Type 0} (standing : R → Standing P) (program : P) (n : ℕ) (events : List Event) (machine : MachineState P) (runs : List R) (rank : ℕ) (before after : R)

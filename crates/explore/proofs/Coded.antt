@@ -4,13 +4,13 @@ use Rattle.std.specs.List.{list_any}
 use Rattle.std.proofs.lemmas.Bool.{or_cases}
 use Rattle.indexmap.specs.IndexSet.{insert_key}
 use Rattle.mpi_call.specs.Lists.{IsIn}
-use Rattle.run_states.specs.declared.code.Code.{Code}
+use Rattle.run_states.specs.declared.code.StateCode.{StateCode}
 use Rattle.explore.proofs.Trying.{map_append}
 
-abbrev pub numbers : Code → List ℤ
+abbrev pub numbers : StateCode → List ℤ
 numbers code = code.numbers.items
 
-any_in : (eq : Code → Code → Bool) → ((one other : Code) → eq one other ≡ true → numbers one ≡ numbers other) → (codes : List Code) (code : Code)
+any_in : (eq : StateCode → StateCode → Bool) → ((one other : StateCode) → eq one other ≡ true → numbers one ≡ numbers other) → (codes : List StateCode) (code : StateCode)
     → list_any (eq code) codes ≡ true → IsIn (numbers code) (map numbers codes)
 any_in eq same [] code h = absurd (cc)
 any_in eq same (one ∷ codes) code h =
@@ -22,14 +22,14 @@ any_in eq same (one ∷ codes) code h =
 abbrev pub IsInserted : List (List ℤ) → List (List ℤ) → List ℤ → Bool → Type 0
 IsInserted old new code is_new = MatchBool is_new (new ≡ old ++ code ∷ []) ((new ≡ old) × IsIn code old)
 
-inserted_by : (eq : Code → Code → Bool) → ((one other : Code) → eq one other ≡ true → numbers one ≡ numbers other) → (old : List Code) (code : Code) (has : Bool)
+inserted_by : (eq : StateCode → StateCode → Bool) → ((one other : StateCode) → eq one other ≡ true → numbers one ≡ numbers other) → (old : List StateCode) (code : StateCode) (has : Bool)
     → list_any (eq code) old ≡ has → IsInserted (map numbers old) (map numbers (if has then old else old ++ code ∷ [])) (numbers code) (not has)
 inserted_by eq same old code true h = (refl, any_in eq same old code h)
 inserted_by eq same old code false h = map_append numbers old (code ∷ [])
 
-pub code_inserted : (eq : Code → Code → Bool) → ((one other : Code) → eq one other ≡ true → numbers one ≡ numbers other) → (old new : List Code) (code : Code) (is_new : Bool)
+pub code_inserted : (eq : StateCode → StateCode → Bool) → ((one other : StateCode) → eq one other ≡ true → numbers one ≡ numbers other) → (old new : List StateCode) (code : StateCode) (is_new : Bool)
     → is_new ≡ not (list_any (eq code) old) → new ≡ insert_key eq old code → IsInserted (map numbers old) (map numbers new) (numbers code) is_new
 code_inserted eq same old new code is_new added keys =
     let F : Bool → Type 0 = λ b. IsInserted (map numbers old) (map numbers new) (numbers code) b in
-    let G : List Code → Type 0 = λ l. IsInserted (map numbers old) (map numbers l) (numbers code) (not (list_any (eq code) old)) in
+    let G : List StateCode → Type 0 = λ l. IsInserted (map numbers old) (map numbers l) (numbers code) (not (list_any (eq code) old)) in
     subst F (sym added) (subst G (sym keys) (inserted_by eq same old code (list_any (eq code) old) refl))

@@ -4,7 +4,7 @@ use Rattle.std.proofs.Common.{◌≡◌, ◌<◌, ◌∙◌, ◌++◌, ◌∷◌
 use Rattle.mpi_call.specs.Lists.{IsIn}
 use Rattle.run_model.specs.declared.event.Event.{Event}
 use Rattle.run_model.specs.Chosen.{order_of}
-use Rattle.run_model.specs.Due.{halt_in}
+use Rattle.run_model.specs.Due.{halt_of_reply}
 use Rattle.run_model.specs.Lists.{Along}
 use Rattle.run_model.specs.Run.{IsRun}
 use Rattle.run_model.specs.Serial.{call_after}
@@ -13,13 +13,14 @@ use Rattle.run_model.proofs.Along.{Along-back}
 use Rattle.run_model.proofs.Views.{option_cases}
 use Rattle.picked_runs.specs.declared.turn.Turn.{Turn}
 use Rattle.picked_runs.specs.Numbering.{AreNumberedInOrder}
+use Rattle.srr_entry.specs.Outputs.{Output}
 use Rattle.run_states.specs.Futures.{SameFuture}
-use Rattle.run_states.specs.Moves.{IsMet}
-use Rattle.run_states.specs.Outcomes.{IsPatientEvent, IsProbeKept, IsWhole, Outcome, Output, outcome_of}
+use Rattle.run_states.specs.Moves.{IsVisited}
+use Rattle.run_states.specs.Outcomes.{IsPatientEvent, IsProbeKept, IsWholeRun, RunOutcome, outcome_of_run}
 use Rattle.run_states.specs.StateLaws.{EveryStepIsMade, FuturesAreSame, HaltsDecideOutcomes}
-use Rattle.explore.specs.declared.found.Found.{Found}
-use Rattle.explore.specs.Explored.{IsListed, made_by}
-use Rattle.explore.specs.Searching.{IsFollowed, IsLookedAt, IsState, histories}
+use Rattle.explore.specs.declared.found.FoundOutcome.{FoundOutcome}
+use Rattle.explore.specs.Explored.{IsListed, events_of_turns}
+use Rattle.explore.specs.Searching.{IsFollowed, IsLookedAt, IsState, histories, question_of, seen_of}
 use Rattle.explore.proofs.NothingMissed.{history_in, listed_as}
 use Rattle.explore.proofs.Noting.{along_join}
 use Rattle.explore.proofs.Patience.{patient_alike}
@@ -34,21 +35,21 @@ pub record IsKept (n polls : ℕ) (polled : Bool) (IsSteady : List Event → Lis
   pub alike : (one other more rest : List Event) → SameFuture n one other → SameFuture n (one ++ more) (other ++ rest) → IsSteady one more → IsSteady other rest
 
 -- a run that has ended goes on from these events, and comes to this
-pub record IsOnward (next : Next) (output : Output) (n : ℕ) (IsSteady : List Event → List Event → Type 0) (outcome : Outcome) (before rest : List Event) : Type 0 where
+pub record IsOnward (next : Next) (output : Output) (n : ℕ) (IsSteady : List Event → List Event → Type 0) (outcome : RunOutcome) (before rest : List Event) : Type 0 where
   pub run : IsRun next n (before ++ rest)
   pub ended : (rank : ℕ) → rank < n → call_after next n (before ++ rest) rank ≡ None
   pub numbered : AreNumberedInOrder n (before ++ rest)
   pub probes : Along IsProbeKept before rest
   pub steady : IsSteady before rest
-  pub outcome_is : outcome ≡ outcome_of output n (before ++ rest)
+  pub outcome_is : outcome ≡ outcome_of_run output n (before ++ rest)
 
 -- its like, by as many events
-record HasOnward (next : Next) (output : Output) (n : ℕ) (IsSteady : List Event → List Event → Type 0) (outcome : Outcome) (other rest : List Event) : Type 0 where
+record HasOnward (next : Next) (output : Output) (n : ℕ) (IsSteady : List Event → List Event → Type 0) (outcome : RunOutcome) (other rest : List Event) : Type 0 where
   like : List Event
   order : order_of like ≡ order_of rest
   onward : IsOnward next output n IsSteady outcome other like
 
-onward_from : (next : Next) (output : Output) (n polls : ℕ) (polled : Bool) (IsSteady : List Event → List Event → Type 0) (outcome : Outcome) (one other rest : List Event)
+onward_from : (next : Next) (output : Output) (n polls : ℕ) (polled : Bool) (IsSteady : List Event → List Event → Type 0) (outcome : RunOutcome) (one other rest : List Event)
     → FuturesAreSame next output n → IsKept n polls polled IsSteady → IsRun next n other → AreNumberedInOrder n other → SameFuture n other one
     → IsOnward next output n IsSteady outcome one rest → HasOnward next output n IsSteady outcome other rest
 onward_from next output n polls polled IsSteady outcome one other rest law kept run numbered same on =
@@ -70,7 +71,7 @@ onward_from next output n polls polled IsSteady outcome one other rest law kept 
     }
 
 -- by one event
-onward_more : (next : Next) (output : Output) (n polls : ℕ) (polled : Bool) (IsSteady : List Event → List Event → Type 0) (outcome : Outcome) (before : List Event) (event : Event) (rest : List Event)
+onward_more : (next : Next) (output : Output) (n polls : ℕ) (polled : Bool) (IsSteady : List Event → List Event → Type 0) (outcome : RunOutcome) (before : List Event) (event : Event) (rest : List Event)
     → IsKept n polls polled IsSteady → IsOnward next output n IsSteady outcome before (event ∷ rest) → IsOnward next output n IsSteady outcome (before ++ event ∷ []) rest
 onward_more next output n polls polled IsSteady outcome before event rest kept on =
     let whole : before ++ event ∷ rest ≡ (before ++ event ∷ []) ++ rest = sym (append_assoc before (event ∷ []) rest) in
@@ -83,54 +84,54 @@ onward_more next output n polls polled IsSteady outcome before event rest kept o
       numbered = subst N whole on.numbered;
       probes = on.probes.1;
       steady = kept.later before event rest on.steady;
-      outcome_is = on.outcome_is ∙ ap (outcome_of output n) whole;
+      outcome_is = on.outcome_is ∙ ap (outcome_of_run output n) whole;
     }
 
 -- 2. along a run
 
 -- what is known of a search
-pub record IsDivided (next : Next) (output : Output) (n polls : ℕ) (root : List Event) (states left : List (List Turn)) (listed : List Found) (polled : Bool) : Type 0 where
+pub record IsDivided (next : Next) (output : Output) (n polls : ℕ) (root : List Event) (states left : List (List Turn)) (listed : List FoundOutcome) (polled : Bool) : Type 0 where
   pub are_states : (turns : List Turn) → IsIn turns states → IsState next n root turns
-  pub looked : (turns : List Turn) → IsIn turns states → IsLookedAt next output n polls states listed polled (made_by next n turns) ⊎ IsIn turns left
+  pub looked : (turns : List Turn) → IsIn turns states → IsLookedAt (question_of next output n polls) (seen_of states listed polled) (events_of_turns next n turns) ⊎ IsIn turns left
 
 -- a run goes on from a state that is left
-pub record GoesOnLeft (next : Next) (output : Output) (n : ℕ) (IsSteady : List Event → List Event → Type 0) (outcome : Outcome) (root : List Event) (left : List (List Turn)) : Type 0 where
+pub record GoesOnLeft (next : Next) (output : Output) (n : ℕ) (IsSteady : List Event → List Event → Type 0) (outcome : RunOutcome) (root : List Event) (left : List (List Turn)) : Type 0 where
   pub turns : List Turn
   pub there : IsIn turns left
   pub state : IsState next n root turns
   pub rest : List Event
-  pub onward : IsOnward next output n IsSteady outcome (made_by next n turns) rest
+  pub onward : IsOnward next output n IsSteady outcome (events_of_turns next n turns) rest
 
-walk : (next : Next) (output : Output) (n polls : ℕ) (root : List Event) (states left : List (List Turn)) (listed : List Found) (polled : Bool) (IsSteady : List Event → List Event → Type 0) (outcome : Outcome)
+walk : (next : Next) (output : Output) (n polls : ℕ) (root : List Event) (states left : List (List Turn)) (listed : List FoundOutcome) (polled : Bool) (IsSteady : List Event → List Event → Type 0) (outcome : RunOutcome)
     → EveryStepIsMade next n → FuturesAreSame next output n → HaltsDecideOutcomes next output n → IsKept n polls polled IsSteady
     → IsDivided next output n polls root states left listed polled
-    → (ranks : List ℕ) (turns : List Turn) (rest : List Event) → order_of rest ≡ ranks → IsIn turns states → IsOnward next output n IsSteady outcome (made_by next n turns) rest
+    → (ranks : List ℕ) (turns : List Turn) (rest : List Event) → order_of rest ≡ ranks → IsIn turns states → IsOnward next output n IsSteady outcome (events_of_turns next n turns) rest
     → IsListed listed outcome ⊎ GoesOnLeft next output n IsSteady outcome root left
 walk next output n polls root states left listed polled IsSteady outcome steps futures halts kept d ranks turns [] order there on =
-    let before : List Event = made_by next n turns in
+    let before : List Event = events_of_turns next n turns in
     elim (d.looked turns there) [
       | inr later ↦ inr (record { turns = turns; there = later; state = d.are_states turns there; rest = []; onward = on })
       | inl looked ↦
           let E : List Event → Type 0 = λ l. (rank : ℕ) → rank < n → call_after next n l rank ≡ None in
-          inl (listed_as listed _ outcome (sym (on.outcome_is ∙ ap (outcome_of output n) (append-nil before))) (looked.ends (subst E (append-nil before) on.ended)))
+          inl (listed_as listed _ outcome (sym (on.outcome_is ∙ ap (outcome_of_run output n) (append-nil before))) (looked.ends (subst E (append-nil before) on.ended)))
     ]
 walk next output n polls root states left listed polled IsSteady outcome steps futures halts kept d [] turns (event ∷ rest) order there on = absurd (cc)
 walk next output n polls root states left listed polled IsSteady outcome steps futures halts kept d (rank ∷ ranks) turns (event ∷ rest) order there on =
-    let before : List Event = made_by next n turns in
+    let before : List Event = events_of_turns next n turns in
     let state = d.are_states turns there in
     elim (d.looked turns there) [
       | inr later ↦ inr (record { turns = turns; there = later; state = state; rest = event ∷ rest; onward = on })
       | inl looked ↦
           let made = steps before rest event on.run on.numbered in
-          elim (option_cases (halt_in event.reply)) [
+          elim (option_cases (halt_of_reply event.reply)) [
             | inl some ↦
                 let stopped = stopped_by event.reply some.0 some.1 in
                 inl (listed_as listed _ outcome (sym (on.outcome_is ∙ halts before rest event some.0 on.run on.ended state.free stopped))
                 (looked.halts event.rank event.call made.pick some.0 (made.halts some.0 stopped)))
             | inr none ↦
                 let K : Event → Type 0 = λ e. IsProbeKept before e in
-                let F : Event → Type 0 = λ e. IsFollowed next n polls states polled before e in
-                let followed : IsFollowed next n polls states polled before event =
+                let F : Event → Type 0 = λ e. IsFollowed next n polls (seen_of states listed polled) before e in
+                let followed : IsFollowed next n polls (seen_of states listed polled) before event =
                 subst F (sym made.made) (looked.moves event.rank event.call made.pick (made.moves none) (subst K made.made on.probes.0)) in
                 elim followed [
                   | inr vain ↦ absurd (vain.1 (kept.now before event rest on.steady vain.0))
@@ -138,7 +139,7 @@ walk next output n polls root states left listed polled IsSteady outcome steps f
                       let found = history_in next n states met.0 met.1 in
                       let two = d.are_states found.0 found.1 in
                       let S : List Event → Type 0 = λ l. SameFuture n l (before ++ event ∷ []) in
-                      let onward = onward_from next output n polls polled IsSteady outcome (before ++ event ∷ []) (made_by next n found.0) rest futures kept two.under.run two.under.numbered
+                      let onward = onward_from next output n polls polled IsSteady outcome (before ++ event ∷ []) (events_of_turns next n found.0) rest futures kept two.under.run two.under.numbered
                       (subst S (sym found.2) met.2) (onward_more next output n polls polled IsSteady outcome before event rest kept on) in
                       let behind : order_of rest ≡ ranks = cc in
                       walk next output n polls root states left listed polled IsSteady outcome steps futures halts kept d ranks found.0 onward.like (onward.order ∙ behind) found.1 onward.onward
@@ -148,13 +149,13 @@ walk next output n polls root states left listed polled IsSteady outcome steps f
 
 -- 3. from the root on
 
-pub divided : (next : Next) (output : Output) (n polls : ℕ) (root : List Event) (states left : List (List Turn)) (listed : List Found) (polled : Bool) (IsSteady : List Event → List Event → Type 0)
+pub divided : (next : Next) (output : Output) (n polls : ℕ) (root : List Event) (states left : List (List Turn)) (listed : List FoundOutcome) (polled : Bool) (IsSteady : List Event → List Event → Type 0)
     → EveryStepIsMade next n → FuturesAreSame next output n → HaltsDecideOutcomes next output n → IsKept n polls polled IsSteady
-    → IsDivided next output n polls root states left listed polled → IsMet n (histories next n states) root
-    → (more : List Event) → IsWhole next n (root ++ more) → IsSteady root more
-    → IsListed listed (outcome_of output n (root ++ more)) ⊎ GoesOnLeft next output n IsSteady (outcome_of output n (root ++ more)) root left
+    → IsDivided next output n polls root states left listed polled → IsVisited n (histories next n states) root
+    → (more : List Event) → IsWholeRun next n (root ++ more) → IsSteady root more
+    → IsListed listed (outcome_of_run output n (root ++ more)) ⊎ GoesOnLeft next output n IsSteady (outcome_of_run output n (root ++ more)) root left
 divided next output n polls root states left listed polled IsSteady steps futures halts kept d met more whole steady =
-    let outcome : Outcome = outcome_of output n (root ++ more) in
+    let outcome : RunOutcome = outcome_of_run output n (root ++ more) in
     let on : IsOnward next output n IsSteady outcome root more = record {
       run = whole.run;
       ended = whole.ended;
@@ -166,16 +167,16 @@ divided next output n polls root states left listed polled IsSteady steps future
     let found = history_in next n states met.0 met.1 in
     let two = d.are_states found.0 found.1 in
     let S : List Event → Type 0 = λ l. SameFuture n l root in
-    let onward = onward_from next output n polls polled IsSteady outcome root (made_by next n found.0) more futures kept two.under.run two.under.numbered (subst S (sym found.2) met.2) on in
+    let onward = onward_from next output n polls polled IsSteady outcome root (events_of_turns next n found.0) more futures kept two.under.run two.under.numbered (subst S (sym found.2) met.2) on in
     walk next output n polls root states left listed polled IsSteady outcome steps futures halts kept d (order_of onward.like) found.0 onward.like refl found.1 onward.onward
 
 -- what goes on from a state that is left is a whole run, if the root keeps its probes
-pub left_whole : (next : Next) (output : Output) (n : ℕ) (root : List Event) (IsSteady : List Event → List Event → Type 0) (outcome : Outcome) (turns : List Turn) (rest : List Event)
-    → Along IsProbeKept [] root → IsState next n root turns → IsOnward next output n IsSteady outcome (made_by next n turns) rest → IsWhole next n (made_by next n turns ++ rest)
+pub left_whole : (next : Next) (output : Output) (n : ℕ) (root : List Event) (IsSteady : List Event → List Event → Type 0) (outcome : RunOutcome) (turns : List Turn) (rest : List Event)
+    → Along IsProbeKept [] root → IsState next n root turns → IsOnward next output n IsSteady outcome (events_of_turns next n turns) rest → IsWholeRun next n (events_of_turns next n turns ++ rest)
 left_whole next output n root IsSteady outcome turns rest probes state on =
     let K : List Event → Type 0 = λ l. Along IsProbeKept [] l in
-    let own : Along IsProbeKept [] (made_by next n turns) = subst K (sym state.under.made) (along_join IsProbeKept [] root state.under.more probes state.under.probes) in
-    record { run = on.run; ended = on.ended; numbered = on.numbered; probes = along_join IsProbeKept [] (made_by next n turns) rest own on.probes }
+    let own : Along IsProbeKept [] (events_of_turns next n turns) = subst K (sym state.under.made) (along_join IsProbeKept [] root state.under.more probes state.under.probes) in
+    record { run = on.run; ended = on.ended; numbered = on.numbered; probes = along_join IsProbeKept [] (events_of_turns next n turns) rest own on.probes }
 
 -- 4. what is wanted of runs
 

@@ -7,10 +7,10 @@ use Rattle.mpi_call.specs.declared.call.Halt.TheVariants.{Stuck}
 use Rattle.mpi_call.specs.declared.reply.Reply.TheVariants.{Stopped}
 use Rattle.run_model.specs.declared.event.Event.{Event}
 use Rattle.run_model.specs.Allowed.{IsStuck, can_go}
-use Rattle.run_model.specs.Due.{halt_in}
+use Rattle.run_model.specs.Due.{halt_of_reply}
 use Rattle.run_model.specs.Run.{IsRun}
-use Rattle.run_model.specs.Serial.{call_after, goes}
-use Rattle.run_model.specs.Views.{Next, view_of}
+use Rattle.run_model.specs.Serial.{call_after, next_can_go}
+use Rattle.run_model.specs.Views.{Next, moment_at, view_of}
 use Rattle.run_model.proofs.ChosenLaws.{cannot_go}
 use Rattle.run_model.proofs.Views.{test_cases}
 use Rattle.picked_runs.specs.declared.turn.Pick.{Pick}
@@ -18,11 +18,12 @@ use Rattle.picked_runs.specs.declared.turn.Pick.TheVariants.{First, Sender, Inde
 use Rattle.picked_runs.specs.declared.turn.Turn.{Turn}
 use Rattle.picked_runs.specs.Picks.{has_pick, picked_event, picked_reply}
 use Rattle.picked_runs.proofs.Allowing.{founded, picked_allowed}
-use Rattle.run_states.specs.Moves.{IsHalting, IsMove, IsSettled}
-use Rattle.run_states.specs.Outcomes.{IsProbeKept, Output, halted_outcome}
+use Rattle.srr_entry.specs.Outputs.{Output}
+use Rattle.run_states.specs.Moves.{IsHalting, IsMove, IsPickSettled}
+use Rattle.run_states.specs.Outcomes.{IsProbeKept, halted_outcome}
 use Rattle.explore.specs.declared.met.Met.{Met}
 use Rattle.explore.specs.Explored.{IsListed}
-use Rattle.explore.specs.Searching.{Grows, HasTried, HasTriedPicks, HasTriedRanks, IsAnyPick, IsFollowed, IsUnanswered}
+use Rattle.explore.specs.Searching.{StaysMet, HasTried, HasTriedPicks, HasTriedRanks, IsAnyPick, IsFollowed, IsUnanswered, question_of, seen_by}
 use Rattle.explore.proofs.Trying.{followed_longer, listed_longer}
 
 -- 1. a call that cannot go is answered by Stuck. (Of a program whose ranks make no calls, no call can go.)
@@ -55,16 +56,16 @@ abbrev pub IsPick : Pick → Pick → Type 0
 IsPick one pick = one ≡ pick
 
 pub one_tried : (next : Next) (output : Output) (n polls : ℕ) (met : Met) (before : List Event) (turn : Turn) → IsRun next n before → turn.rank < n
-    → HasTried next output n polls met before turn → HasTriedPicks next output n polls met before turn.rank (IsPick turn.pick) true
+    → HasTried (question_of next output n polls) met before turn → HasTriedPicks (question_of next output n polls) met before turn.rank (IsPick turn.pick) true
 one_tried next output n polls met before turn run below tried =
     let rank : ℕ = turn.rank in
     record {
       moves = λ call pick here move kept. (
           let same : tried.call ≡ call = same_call (call_after next n before rank) tried.call call tried.asked move.asked in
-          let F : Call → Pick → Type 0 = λ c p. halt_in (picked_reply n before rank c p) ≡ None → IsProbeKept before (picked_event n before rank c p)
-          → IsFollowed next n polls met.states met.polled before (picked_event n before rank c p) in
+          let F : Call → Pick → Type 0 = λ c p. halt_of_reply (picked_reply n before rank c p) ≡ None → IsProbeKept before (picked_event n before rank c p)
+          → IsFollowed next n polls (seen_by met) before (picked_event n before rank c p) in
           subst (λ p. F call p) here (subst (λ c. F c turn.pick) same tried.moves) move.free kept);
-      halts = λ call pick halt here halting goes. (
+      halts = λ call pick halt here halting next_can_go. (
           let same : tried.call ≡ call = same_call (call_after next n before rank) tried.call call tried.asked halting.asked in
           let F : Call → Pick → Type 0 = λ c p. (other : Halt) → picked_reply n before rank c p ≡ Stopped other → IsListed met.found (halted_outcome next output n before other) in
           subst (λ p. F call p) here (subst (λ c. F c turn.pick) same tried.halts) halt halting.halts);
@@ -75,7 +76,7 @@ one_tried next output n polls met before turn run below tried =
     }
 
 pub one_not : (next : Next) (output : Output) (n polls : ℕ) (met : Met) (before : List Event) (turn : Turn) → IsRun next n before
-    → IsUnanswered next n before turn → HasTriedPicks next output n polls met before turn.rank (IsPick turn.pick) false
+    → IsUnanswered next n before turn → HasTriedPicks (question_of next output n polls) met before turn.rank (IsPick turn.pick) false
 one_not next output n polls met before turn run not =
     let rank : ℕ = turn.rank in
     record {
@@ -84,14 +85,14 @@ one_not next output n polls met before turn run not =
             let P : Pick → Type 0 = λ p. picked_reply n before rank call p ≡ Stopped Stuck in
             let reply : picked_reply n before rank call First ≡ Stopped Stuck = held_reply next n before rank call First run refl (not.held call move.asked first) in
             let stopped : picked_reply n before rank call pick ≡ Stopped Stuck = subst P (sym first ∙ here) reply in
-            let no : None ≡ Some Stuck = sym move.free ∙ ap halt_in stopped in
+            let no : None ≡ Some Stuck = sym move.free ∙ ap halt_of_reply stopped in
             absurd (cc))
         | inr apart ↦ (
             let P : Pick → Type 0 = λ p. has_pick n before rank call p ≡ false in
             absurd (not_both (has_pick n before rank call pick) move.offered (subst P here (not.absent call move.asked apart))))
       ]);
-      halts = λ call pick halt here halting goes. (elim (pick_cases turn.pick) [
-        | inl first ↦ absurd (not_both (can_go n before rank (view_of before rank) call) (goes (sym here ∙ first)) (not.held call halting.asked first))
+      halts = λ call pick halt here halting next_can_go. (elim (pick_cases turn.pick) [
+        | inl first ↦ absurd (not_both (can_go n before rank (view_of before rank) call) (next_can_go (sym here ∙ first)) (not.held call halting.asked first))
         | inr apart ↦ (
             let P : Pick → Type 0 = λ p. has_pick n before rank call p ≡ false in
             absurd (not_both (has_pick n before rank call pick) halting.offered (subst P here (not.absent call halting.asked apart))))
@@ -107,11 +108,11 @@ one_not next output n polls met before turn run not =
 -- 3. several picks
 
 pub picks_none : (next : Next) (output : Output) (n polls : ℕ) (met : Met) (before : List Event) (rank : ℕ) (IsOne : Pick → Type 0) → ((pick : Pick) → IsOne pick → ⊥)
-    → HasTriedPicks next output n polls met before rank IsOne false
+    → HasTriedPicks (question_of next output n polls) met before rank IsOne false
 picks_none next output n polls met before rank IsOne none =
     record {
       moves = λ call pick here move kept. absurd (none pick here);
-      halts = λ call pick halt here halting goes. absurd (none pick here);
+      halts = λ call pick halt here halting next_can_go. absurd (none pick here);
       absent = λ made call pick here asked apart. absurd (none pick here);
       held = λ made call here asked. absurd (none First here);
       some = λ made. (let no : false ≡ true = made in absurd (cc));
@@ -133,18 +134,18 @@ pub record AreBoth (One Two Both : Pick → Type 0) : Type 0 where
   pub second : (pick : Pick) → Two pick → Both pick
 
 pub picks_both : (next : Next) (output : Output) (n polls : ℕ) (met met' : Met) (before : List Event) (rank : ℕ) (One Two Both : Pick → Type 0) (a b : Bool)
-    → AreBoth One Two Both → Grows met.states met'.states met.found met'.found met.polled met'.polled
-    → HasTriedPicks next output n polls met before rank One a → HasTriedPicks next output n polls met' before rank Two b
-    → HasTriedPicks next output n polls met' before rank Both (a || b)
+    → AreBoth One Two Both → StaysMet met.states met'.states met.found met'.found met.polled met'.polled
+    → HasTriedPicks (question_of next output n polls) met before rank One a → HasTriedPicks (question_of next output n polls) met' before rank Two b
+    → HasTriedPicks (question_of next output n polls) met' before rank Both (a || b)
 picks_both next output n polls met met' before rank One Two Both a b are grows one two =
     record {
       moves = λ call pick here move kept. (elim (are.parts pick here) [
         | inl l ↦ followed_longer next n polls met.states met'.states met.found met'.found met.polled met'.polled before (picked_event n before rank call pick) grows (one.moves call pick l move kept)
         | inr r ↦ two.moves call pick r move kept
       ]);
-      halts = λ call pick halt here halting goes. (elim (are.parts pick here) [
-        | inl l ↦ listed_longer met.found met'.found (halted_outcome next output n before halt) grows.listed_stay (one.halts call pick halt l halting goes)
-        | inr r ↦ two.halts call pick halt r halting goes
+      halts = λ call pick halt here halting next_can_go. (elim (are.parts pick here) [
+        | inl l ↦ listed_longer met.found met'.found (halted_outcome next output n before halt) grows.listed_stay (one.halts call pick halt l halting next_can_go)
+        | inr r ↦ two.halts call pick halt r halting next_can_go
       ]);
       absent = λ made call pick here asked apart. (
           let no = or_false a b made in
@@ -170,23 +171,23 @@ picks_both next output n polls met met' before rank One Two Both a b are grows o
 
 -- 4. all picks of a rank: those that can be made were among these
 
-settled_apart : (n : ℕ) (before : List Event) (rank : ℕ) (call : Call) (pick : Pick) → pick ≢ First → IsSettled n before rank call pick
+settled_apart : (n : ℕ) (before : List Event) (rank : ℕ) (call : Call) (pick : Pick) → pick ≢ First → IsPickSettled n before rank call pick
 settled_apart n before rank call First apart = absurd (apart refl)
 settled_apart n before rank call (Sender sender) apart = tt
 settled_apart n before rank call (Index index) apart = tt
 
 pub picks_all : (next : Next) (output : Output) (n polls : ℕ) (met : Met) (before : List Event) (rank : ℕ) (call : Call) (IsOne : Pick → Type 0) (made : Bool)
     → call_after next n before rank ≡ Some call
-    → ((pick : Pick) → has_pick n before rank call pick ≡ true → IsSettled n before rank call pick → IsOne pick)
+    → ((pick : Pick) → has_pick n before rank call pick ≡ true → IsPickSettled n before rank call pick → IsOne pick)
     → (made ≡ false → IsOne First)
-    → HasTriedPicks next output n polls met before rank IsOne made → HasTriedPicks next output n polls met before rank IsAnyPick made
+    → HasTriedPicks (question_of next output n polls) met before rank IsOne made → HasTriedPicks (question_of next output n polls) met before rank IsAnyPick made
 picks_all next output n polls met before rank call IsOne made asked cover first tried =
     let same : (other : Call) → call_after next n before rank ≡ Some other → call ≡ other = λ other h. same_call (call_after next n before rank) call other asked h in
-    let C : Call → Type 0 = λ c. (pick : Pick) → has_pick n before rank c pick ≡ true → IsSettled n before rank c pick → IsOne pick in
+    let C : Call → Type 0 = λ c. (pick : Pick) → has_pick n before rank c pick ≡ true → IsPickSettled n before rank c pick → IsOne pick in
     let covers : (other : Call) → call_after next n before rank ≡ Some other → C other = λ other h. subst C (same other h) cover in
     record {
       moves = λ other pick here move kept. tried.moves other pick (covers other move.asked pick move.offered move.settled) move kept;
-      halts = λ other pick halt here halting goes. tried.halts other pick halt (covers other halting.asked pick halting.offered halting.settled) halting goes;
+      halts = λ other pick halt here halting next_can_go. tried.halts other pick halt (covers other halting.asked pick halting.offered halting.settled) halting next_can_go;
       absent = λ no other pick here h apart. (elim (test_cases (has_pick n before rank other pick)) [
         | inl t ↦ tried.absent no other pick (covers other h pick t (settled_apart n before rank other pick apart)) h apart
         | inr f ↦ f
@@ -197,12 +198,12 @@ picks_all next output n polls met before rank call IsOne made asked cover first 
     }
 
 pub picks_ended : (next : Next) (output : Output) (n polls : ℕ) (met : Met) (before : List Event) (rank : ℕ) → call_after next n before rank ≡ None
-    → HasTriedPicks next output n polls met before rank IsAnyPick false
+    → HasTriedPicks (question_of next output n polls) met before rank IsAnyPick false
 picks_ended next output n polls met before rank none =
     let never : (call : Call) → call_after next n before rank ≡ Some call → ⊥ = λ call h. (let no : None ≡ Some call = sym none ∙ h in cc) in
     record {
       moves = λ call pick here move kept. absurd (never call move.asked);
-      halts = λ call pick halt here halting goes. absurd (never call halting.asked);
+      halts = λ call pick halt here halting next_can_go. absurd (never call halting.asked);
       absent = λ made call pick here asked apart. absurd (never call asked);
       held = λ made call here asked. absurd (never call asked);
       some = λ made. (let no : false ≡ true = made in absurd (cc));
@@ -211,11 +212,11 @@ picks_ended next output n polls met before rank none =
 
 -- 5. ranks
 
-pub ranks_none : (next : Next) (output : Output) (n polls : ℕ) (met : Met) (before : List Event) → HasTriedRanks next output n polls met before 0 false
+pub ranks_none : (next : Next) (output : Output) (n polls : ℕ) (met : Met) (before : List Event) → HasTriedRanks (question_of next output n polls) met before 0 false
 ranks_none next output n polls met before =
     record {
       moves = λ rank call pick below move kept. absurd (omega (arith, below));
-      halts = λ rank call pick halt below halting goes. absurd (omega (arith, below));
+      halts = λ rank call pick halt below halting next_can_go. absurd (omega (arith, below));
       idle = λ made rank below. absurd (omega (arith, below));
       some = λ made. (let no : false ≡ true = made in absurd (cc));
       stuck = λ made stuck. (let no : false ≡ true = made in absurd (cc));
@@ -229,27 +230,27 @@ last_below rank low h =
     ]
 
 idle_by : (n : ℕ) (before : List Event) (rank : ℕ) (asked : Option Call)
-    → ((call : Call) → asked ≡ Some call → can_go n before rank (view_of before rank) call ≡ false) → goes n before rank asked ≡ false
+    → ((call : Call) → asked ≡ Some call → can_go n before rank (view_of before rank) call ≡ false) → next_can_go n before rank asked ≡ false
 idle_by n before rank None h = refl
 idle_by n before rank (Some call) h = h call refl
 
 pub ranks_more : (next : Next) (output : Output) (n polls : ℕ) (met met' : Met) (before : List Event) (low : ℕ) (a b : Bool) → low < n
-    → Grows met.states met'.states met.found met'.found met.polled met'.polled
-    → HasTriedRanks next output n polls met before low a → HasTriedPicks next output n polls met' before low IsAnyPick b
-    → HasTriedRanks next output n polls met' before (low + 1) (a || b)
+    → StaysMet met.states met'.states met.found met'.found met.polled met'.polled
+    → HasTriedRanks (question_of next output n polls) met before low a → HasTriedPicks (question_of next output n polls) met' before low IsAnyPick b
+    → HasTriedRanks (question_of next output n polls) met' before (low + 1) (a || b)
 ranks_more next output n polls met met' before low a b within grows one two =
     record {
       moves = λ rank call pick below move kept. (elim (last_below rank low below) [
         | inl less ↦ followed_longer next n polls met.states met'.states met.found met'.found met.polled met'.polled before (picked_event n before rank call pick) grows (one.moves rank call pick less move kept)
         | inr same ↦ (
             let F : ℕ → Type 0 = λ r. IsMove next n before r call pick → IsProbeKept before (picked_event n before r call pick)
-            → IsFollowed next n polls met'.states met'.polled before (picked_event n before r call pick) in
+            → IsFollowed next n polls (seen_by met') before (picked_event n before r call pick) in
             subst F same (λ m k. two.moves call pick tt m k) move kept)
       ]);
       halts = λ rank call pick halt below halting free. (elim (last_below rank low below) [
         | inl less ↦ listed_longer met.found met'.found (halted_outcome next output n before halt) grows.listed_stay (one.halts rank call pick halt less halting free)
         | inr same ↦ (
-            let F : ℕ → Type 0 = λ r. IsHalting next n before r call pick halt → (pick ≡ First → can_go n before r (view_of before r) call ≡ true)
+            let F : ℕ → Type 0 = λ r. IsHalting next (moment_at n before r) call pick halt → (pick ≡ First → can_go n before r (view_of before r) call ≡ true)
             → IsListed met'.found (halted_outcome next output n before halt) in
             subst F same (λ h g. two.halts call pick halt tt h g) halting free)
       ]);
@@ -258,7 +259,7 @@ ranks_more next output n polls met met' before low a b within grows one two =
           elim (last_below rank low below) [
             | inl less ↦ one.idle no.0 rank less
             | inr same ↦ (
-                let F : ℕ → Type 0 = λ r. goes n before r (call_after next n before r) ≡ false in
+                let F : ℕ → Type 0 = λ r. next_can_go n before r (call_after next n before r) ≡ false in
                 subst F same (idle_by n before low (call_after next n before low) (λ call asked. two.held no.1 call tt asked)))
           ]);
       some = λ made. (elim (or_true a b made) [

@@ -8,24 +8,25 @@ use Rattle.mpi_call.specs.declared.reply.Reply.TheVariants.{Stopped}
 use Rattle.mpi_call.specs.Lists.{IsIn}
 use Rattle.run_model.specs.declared.event.Event.{Event}
 use Rattle.run_model.specs.Allowed.{IsStuck, can_go}
-use Rattle.run_model.specs.Due.{halt_in, halted}
+use Rattle.run_model.specs.Due.{halt_of_reply, halted}
 use Rattle.run_model.specs.Lists.{Along, IsPrefixOf}
 use Rattle.run_model.specs.Run.{IsRun}
-use Rattle.run_model.specs.Serial.{call_after, goes}
-use Rattle.run_model.specs.Views.{Next, view_of}
+use Rattle.run_model.specs.Serial.{call_after, next_can_go}
+use Rattle.run_model.specs.Views.{Next, moment_at, view_of}
 use Rattle.run_model.proofs.Along.{Along-front}
 use Rattle.run_model.proofs.Views.{option_cases}
 use Rattle.picked_runs.specs.declared.turn.Pick.{Pick}
 use Rattle.picked_runs.specs.declared.turn.Turn.{Turn}
 use Rattle.picked_runs.specs.Picks.{picked_event, picked_reply}
+use Rattle.srr_entry.specs.Outputs.{Output}
 use Rattle.run_states.specs.Moves.{IsHalting}
-use Rattle.run_states.specs.Outcomes.{IsPatientEvent, IsProbeKept, IsWhole, Outcome, Output, halted_outcome, outcome_of}
+use Rattle.run_states.specs.Outcomes.{IsPatientEvent, IsProbeKept, IsWholeRun, RunOutcome, halted_outcome, outcome_of_run}
 use Rattle.run_states.specs.StateLaws.{EveryStepIsMade, FuturesAreSame, HaltsDecideOutcomes}
 use Rattle.explore.specs.declared.found.Explored.{Explored}
-use Rattle.explore.specs.declared.found.Found.{Found}
+use Rattle.explore.specs.declared.found.FoundOutcome.{FoundOutcome}
 use Rattle.explore.specs.declared.met.Met.{Met}
-use Rattle.explore.specs.Explored.{AreApart, IsBehind, IsExplored, IsFound, IsLeft, IsLeftPatient, IsListed, made_by}
-use Rattle.explore.specs.Searching.{Grows, HasBegun, HasLookedAt, HasTriedRanks, IsAtEnd, IsNoted, IsSearched, IsState, IsUnderWay}
+use Rattle.explore.specs.Explored.{OutcomesDiffer, IsBehind, IsExplored, IsFoundOutcome, IsReachableOutcome, IsLeftPatient, IsListed, events_of_turns}
+use Rattle.explore.specs.Searching.{StaysMet, HasBegun, HasLookedAt, HasTriedRanks, IsAtEnd, IsOutcomeListed, IsSearched, IsState, IsUnderWay, question_of, seen_by}
 use Rattle.explore.specs.SearchLaws.{AllRunsAreListed, PatientRunsAreListed}
 use Rattle.explore.proofs.Dividing.{GoesOnLeft, IsDivided, IsFree, divided, free_kept, left_whole, patient_kept, taken_or_left}
 use Rattle.explore.proofs.Joining.{held_reply}
@@ -33,23 +34,23 @@ use Rattle.explore.proofs.Recorded.{ended_comes, taken_begins}
 use Rattle.explore.proofs.Tried.{stopped_by, stuck_listed}
 use Rattle.explore.proofs.Trying.{followed_longer, listed_longer, looked_longer, met_longer}
 
-listed_as : (listed : List Found) (one other : Outcome) → one ≡ other → IsListed listed one → IsListed listed other
-listed_as listed one other same there = (let F : Outcome → Type 0 = λ o. IsListed listed o in subst F same there)
+listed_as : (listed : List FoundOutcome) (one other : RunOutcome) → one ≡ other → IsListed listed one → IsListed listed other
+listed_as listed one other same there = (let F : RunOutcome → Type 0 = λ o. IsListed listed o in subst F same there)
 
 -- 1. a state
 
 -- where no call can go, the halt is Stuck
 halt_stuck : (next : Next) (n : ℕ) (before : List Event) (rank : ℕ) (call : Call) (pick : Pick) (halt : Halt) → IsRun next n before
-    → IsHalting next n before rank call pick halt → IsStuck next n before → Stuck ≡ halt
+    → IsHalting next (moment_at n before rank) call pick halt → IsStuck next n before → Stuck ≡ halt
 halt_stuck next n before rank call pick halt run halting stuck =
     let reply : picked_reply n before rank call pick ≡ Stopped Stuck = held_reply next n before rank call pick run halting.offered (stuck rank call halting.below halting.asked) in
     let both : Stopped Stuck ≡ Stopped halt = sym reply ∙ halting.halts in
     cc
 
 pub looked_made : (next : Next) (output : Output) (n polls : ℕ) (met : Met) (root : List Event) (turns : List Turn) → IsState next n root turns
-    → HasTriedRanks next output n polls met (made_by next n turns) n true → HasLookedAt next output n polls met turns
+    → HasTriedRanks (question_of next output n polls) met (events_of_turns next n turns) n true → HasLookedAt (question_of next output n polls) met turns
 looked_made next output n polls met root turns state tried =
-    let before : List Event = made_by next n turns in
+    let before : List Event = events_of_turns next n turns in
     record {
       moves = λ rank call pick move kept. tried.moves rank call pick move.below move kept;
       halts = λ rank call pick halt halting. (elim halting.goes [
@@ -62,22 +63,22 @@ looked_made next output n polls met root turns state tried =
           absurd (cc));
     }
 
-goes_as : (n : ℕ) (before : List Event) (rank : ℕ) (asked : Option Call) (call : Call) → asked ≡ Some call → goes n before rank asked ≡ false
+goes_as : (n : ℕ) (before : List Event) (rank : ℕ) (asked : Option Call) (call : Call) → asked ≡ Some call → next_can_go n before rank asked ≡ false
     → can_go n before rank (view_of before rank) call ≡ false
-goes_as n before rank asked call same h = (let F : Option Call → Type 0 = λ o. goes n before rank o ≡ false in subst F same h)
+goes_as n before rank asked call same h = (let F : Option Call → Type 0 = λ o. next_can_go n before rank o ≡ false in subst F same h)
 
-pub idle_stuck : (next : Next) (output : Output) (n polls : ℕ) (met : Met) (before : List Event) → HasTriedRanks next output n polls met before n false → IsStuck next n before
+pub idle_stuck : (next : Next) (output : Output) (n polls : ℕ) (met : Met) (before : List Event) → HasTriedRanks (question_of next output n polls) met before n false → IsStuck next n before
 idle_stuck next output n polls met before tried rank call below asked =
     goes_as n before rank (call_after next n before rank) call asked (tried.idle refl rank below)
 
-pub idle_end : (next : Next) (output : Output) (n polls : ℕ) (met : Met) (before : List Event) → HasTriedRanks next output n polls met before n false → IsAtEnd next n before
+pub idle_end : (next : Next) (output : Output) (n polls : ℕ) (met : Met) (before : List Event) → HasTriedRanks (question_of next output n polls) met before n false → IsAtEnd next n before
 idle_end next output n polls met before tried = inl (idle_stuck next output n polls met before tried)
 
 pub looked_idle : (next : Next) (output : Output) (n polls : ℕ) (met met' : Met) (root : List Event) (turns : List Turn) → HaltsDecideOutcomes next output n → IsState next n root turns
-    → Grows met.states met'.states met.found met'.found met.polled met'.polled
-    → HasTriedRanks next output n polls met (made_by next n turns) n false → IsNoted next output n turns met'.found → HasLookedAt next output n polls met' turns
+    → StaysMet met.states met'.states met.found met'.found met.polled met'.polled
+    → HasTriedRanks (question_of next output n polls) met (events_of_turns next n turns) n false → IsOutcomeListed next output n turns met'.found → HasLookedAt (question_of next output n polls) met' turns
 looked_idle next output n polls met met' root turns law state grows tried noted =
-    let before : List Event = made_by next n turns in
+    let before : List Event = events_of_turns next n turns in
     let stuck : IsStuck next n before = idle_stuck next output n polls met before tried in
     record {
       moves = λ rank call pick move kept.
@@ -149,23 +150,23 @@ taken_more {A} P at x xs ys longer got all here one there =
     ]
 
 -- one more state was looked at
-pub looked_more : (next : Next) (output : Output) (n polls : ℕ) (met met' : Met) (at : ℕ) (turns : List Turn) → Grows met.states met'.states met.found met'.found met.polled met'.polled
+pub looked_more : (next : Next) (output : Output) (n polls : ℕ) (met met' : Met) (at : ℕ) (turns : List Turn) → StaysMet met.states met'.states met.found met'.found met.polled met'.polled
     → slice_get met.states at ≡ Some turns
-    → ((one : List Turn) → IsIn one (take at met.states) → HasLookedAt next output n polls met one) → HasLookedAt next output n polls met' turns
-    → (one : List Turn) → IsIn one (take (at + 1) met'.states) → HasLookedAt next output n polls met' one
+    → ((one : List Turn) → IsIn one (take at met.states) → HasLookedAt (question_of next output n polls) met one) → HasLookedAt (question_of next output n polls) met' turns
+    → (one : List Turn) → IsIn one (take (at + 1) met'.states) → HasLookedAt (question_of next output n polls) met' one
 looked_more next output n polls met met' at turns grows got all here =
-    let L : List Turn → Type 0 = λ l. HasLookedAt next output n polls met' l in
+    let L : List Turn → Type 0 = λ l. HasLookedAt (question_of next output n polls) met' l in
     taken_more L at turns met.states met'.states grows.states_stay got
-    (λ one front. looked_longer next output n polls met.states met'.states met.found met'.found met.polled met'.polled (made_by next n one) grows (all one front)) here
+    (λ one front. looked_longer next output n polls met.states met'.states met.found met'.found met.polled met'.polled (events_of_turns next n one) grows (all one front)) here
 
 searched : (next : Next) (output : Output) (n polls : ℕ) (under : List Turn) (first met : Met) (looked : ℕ) → HasBegun next output n under first
-    → Grows first.states met.states first.found met.found first.polled met.polled → halted (made_by next n under) ≡ None
-    → ((turns : List Turn) → IsIn turns (take looked met.states) → HasLookedAt next output n polls met turns) → drop looked met.states ≡ []
-    → IsSearched next output n polls (made_by next n under) met.states met.found met.polled
+    → StaysMet first.states met.states first.found met.found first.polled met.polled → halted (events_of_turns next n under) ≡ None
+    → ((turns : List Turn) → IsIn turns (take looked met.states) → HasLookedAt (question_of next output n polls) met turns) → drop looked met.states ≡ []
+    → IsSearched (question_of next output n polls) (events_of_turns next n under) (seen_by met)
 searched next output n polls under first met looked begun grows free all none =
-    let F : List (List Turn) → Type 0 = λ l. (turns : List Turn) → IsIn turns l → HasLookedAt next output n polls met turns in
+    let F : List (List Turn) → Type 0 = λ l. (turns : List Turn) → IsIn turns l → HasLookedAt (question_of next output n polls) met turns in
     record {
-      first = met_longer next n first.states met.states (made_by next n under) grows.states_stay (begun.free free);
+      first = met_longer next n first.states met.states (events_of_turns next n under) grows.states_stay (begun.free free);
       looked = subst F (all_taken looked met.states none) all;
     }
 
@@ -176,12 +177,12 @@ record HasFirstHalt (events : List Event) (halt : Halt) : Type 0 where
   after : List Event
   whole : events ≡ before ++ event ∷ after
   none : halted before ≡ None
-  here : halt_in event.reply ≡ Some halt
+  here : halt_of_reply event.reply ≡ Some halt
 
 first_halt : (events : List Event) (halt : Halt) → halted events ≡ Some halt → HasFirstHalt events halt
 first_halt [] halt h = absurd (cc)
 first_halt (event ∷ events) halt h =
-    elim (option_cases (halt_in event.reply)) [
+    elim (option_cases (halt_of_reply event.reply)) [
       | inl some ↦
           let same : Some some.0 ≡ Some halt = rw some.1 at h in
           record { before = []; event = event; after = events; whole = refl; none = refl; here = some.1 ∙ same }
@@ -194,7 +195,7 @@ first_halt (event ∷ events) halt h =
 halted_runs : (next : Next) (output : Output) (n : ℕ) (root one other : List Event) (halt : Halt) → HaltsDecideOutcomes next output n → halted root ≡ Some halt
     → IsRun next n (root ++ one) → ((rank : ℕ) → rank < n → call_after next n (root ++ one) rank ≡ None)
     → IsRun next n (root ++ other) → ((rank : ℕ) → rank < n → call_after next n (root ++ other) rank ≡ None)
-    → outcome_of output n (root ++ one) ≡ outcome_of output n (root ++ other)
+    → outcome_of_run output n (root ++ one) ≡ outcome_of_run output n (root ++ other)
 halted_runs next output n root one other halt law there run ended run' ended' =
     let f = first_halt root halt there in
     let stopped : f.event.reply ≡ Stopped halt = stopped_by f.event.reply halt f.here in
@@ -203,29 +204,29 @@ halted_runs next output n root one other halt law there run ended run' ended' =
     let R : List Event → Type 0 = λ l. IsRun next n l in
     let E : List Event → Type 0 = λ l. (rank : ℕ) → rank < n → call_after next n l rank ≡ None in
     let decided : (more : List Event) → IsRun next n (root ++ more) → ((rank : ℕ) → rank < n → call_after next n (root ++ more) rank ≡ None)
-    → outcome_of output n (root ++ more) ≡ halted_outcome next output n f.before halt =
-    λ more r e. ap (outcome_of output n) (whole more) ∙ law f.before (f.after ++ more) f.event halt (subst R (whole more) r) (subst E (whole more) e) f.none stopped in
+    → outcome_of_run output n (root ++ more) ≡ halted_outcome next output n f.before halt =
+    λ more r e. ap (outcome_of_run output n) (whole more) ∙ law f.before (f.after ++ more) f.event halt (subst R (whole more) r) (subst E (whole more) e) f.none stopped in
     decided one run ended ∙ sym (decided other run' ended')
 
 pub root_listed : (next : Next) (output : Output) (n : ℕ) (under : List Turn) (first met : Met) (halt : Halt) (more : List Event) → HaltsDecideOutcomes next output n
-    → HasBegun next output n under first → Grows first.states met.states first.found met.found first.polled met.polled
-    → halted (made_by next n under) ≡ Some halt → IsWhole next n (made_by next n under ++ more)
-    → IsListed met.found (outcome_of output n (made_by next n under ++ more))
+    → HasBegun next output n under first → StaysMet first.states met.states first.found met.found first.polled met.polled
+    → halted (events_of_turns next n under) ≡ Some halt → IsWholeRun next n (events_of_turns next n under ++ more)
+    → IsListed met.found (outcome_of_run output n (events_of_turns next n under ++ more))
 root_listed next output n under first met halt more law begun grows there whole =
-    let root : List Event = made_by next n under in
+    let root : List Event = events_of_turns next n under in
     let noted = begun.ended halt there in
     let c = noted.comes in
     let begins = taken_begins next n under c.run c.taken in
     let R : List Event → Type 0 = λ l. IsRun next n l in
     let E : List Event → Type 0 = λ l. (rank : ℕ) → rank < n → call_after next n l rank ≡ None in
-    let same : outcome_of output n (root ++ begins.0) ≡ outcome_of output n (root ++ more) =
+    let same : outcome_of_run output n (root ++ begins.0) ≡ outcome_of_run output n (root ++ more) =
     halted_runs next output n root begins.0 more halt law there (subst R (sym begins.1) c.picked.run) (subst E (sym begins.1) c.taken.ended) whole.run whole.ended in
     listed_longer first.found met.found _ grows.listed_stay
-    (listed_as first.found noted.outcome _ (c.outcome_is ∙ (ap (outcome_of output n) (sym begins.1) ∙ same)) noted.listed_is)
+    (listed_as first.found noted.outcome _ (c.outcome_is ∙ (ap (outcome_of_run output n) (sym begins.1) ∙ same)) noted.listed_is)
 
 -- what is kept of runs that go on from what is left
-left_of : (next : Next) (output : Output) (n : ℕ) (root : List Event) (IsSteady : List Event → List Event → Type 0) (outcome : Outcome) (left : List (List Turn)) → Along IsProbeKept [] root
-    → GoesOnLeft next output n IsSteady outcome root left → IsLeft next output n left outcome
+left_of : (next : Next) (output : Output) (n : ℕ) (root : List Event) (IsSteady : List Event → List Event → Type 0) (outcome : RunOutcome) (left : List (List Turn)) → Along IsProbeKept [] root
+    → GoesOnLeft next output n IsSteady outcome root left → IsReachableOutcome next output n left outcome
 left_of next output n root IsSteady outcome left probes on =
     record {
       turns = on.turns;
@@ -235,7 +236,7 @@ left_of next output n root IsSteady outcome left probes on =
       outcome_is = on.onward.outcome_is;
     }
 
-patient_left : (next : Next) (output : Output) (n polls : ℕ) (root : List Event) (outcome : Outcome) (left : List (List Turn)) → Along IsProbeKept [] root
+patient_left : (next : Next) (output : Output) (n polls : ℕ) (root : List Event) (outcome : RunOutcome) (left : List (List Turn)) → Along IsProbeKept [] root
     → GoesOnLeft next output n (λ before events. Along (IsPatientEvent polls) before events) outcome root left → IsLeftPatient next output n polls left outcome
 patient_left next output n polls root outcome left probes on =
     record {
@@ -250,7 +251,7 @@ patient_left next output n polls root outcome left probes on =
     }
 
 divides : (next : Next) (output : Output) (n polls : ℕ) (root : List Event) (met : Met) (looked : ℕ) → IsUnderWay next output n root met
-    → ((turns : List Turn) → IsIn turns (take looked met.states) → HasLookedAt next output n polls met turns)
+    → ((turns : List Turn) → IsIn turns (take looked met.states) → HasLookedAt (question_of next output n polls) met turns)
     → IsDivided next output n polls root met.states (drop looked met.states) met.found met.polled
 divides next output n polls root met looked way all =
     record {
@@ -278,19 +279,19 @@ pub record AreLawful (next : Next) (output : Output) (n : ℕ) : Type 0 where
   pub all : AllRunsAreListed next output n
 
 pub explored_all : (next : Next) (output : Output) (n polls : ℕ) (under : List Turn) (first met : Met) (looked : ℕ) (explored : Explored)
-    → AreLawful next output n → HasBegun next output n under first → IsUnderWay next output n (made_by next n under) met
-    → Grows first.states met.states first.found met.found first.polled met.polled
-    → ((turns : List Turn) → IsIn turns (take looked met.states) → HasLookedAt next output n polls met turns)
+    → AreLawful next output n → HasBegun next output n under first → IsUnderWay next output n (events_of_turns next n under) met
+    → StaysMet first.states met.states first.found met.found first.polled met.polled
+    → ((turns : List Turn) → IsIn turns (take looked met.states) → HasLookedAt (question_of next output n polls) met turns)
     → explored.found ≡ met.found → explored.left ≡ drop looked met.states → explored.polled ≡ met.polled
     → IsExplored next output n polls under explored
 explored_all next output n polls under first met looked explored laws begun way grows all found left polled =
-    let root : List Event = made_by next n under in
+    let root : List Event = events_of_turns next n under in
     let law : HaltsDecideOutcomes next output n = laws.halts in
     let rest : List (List Turn) = drop looked met.states in
     let d : IsDivided next output n polls root met.states rest met.found met.polled = divides next output n polls root met looked way all in
     let B : List (List Turn) → Type 0 = λ l. (turns : List Turn) → IsIn turns l → IsBehind next n root turns in
-    let A : List Found → Type 0 = λ l. AreApart l in
-    let S : List Found → Type 0 = λ l. (one : Found) → IsIn one l → IsFound next output n root one in
+    let A : List FoundOutcome → Type 0 = λ l. OutcomesDiffer l in
+    let S : List FoundOutcome → Type 0 = λ l. (one : FoundOutcome) → IsIn one l → IsFoundOutcome next output n root one in
     record {
       sound = subst S (sym found) way.found;
       apart = subst A (sym found) way.apart;
@@ -299,14 +300,14 @@ explored_all next output n polls under first met looked explored laws begun way 
           let state = way.are_states turns (in_dropped looked met.states turns (subst I left there)) in
           record { ranks = state.under.ranks; picks = state.under.picks });
       patient = λ none more whole steady. (
-          let L : List Found → Type 0 = λ l. IsListed l (outcome_of output n (root ++ more)) in
+          let L : List FoundOutcome → Type 0 = λ l. IsListed l (outcome_of_run output n (root ++ more)) in
           subst L (sym found) (elim (option_cases (halted root)) [
             | inl some ↦ root_listed next output n under first met some.0 more law begun grows some.1 whole
             | inr free ↦ laws.patient polls root more met.states met.found met.polled
                 (searched next output n polls under first met looked begun grows free all (sym left ∙ none)) free whole steady
           ]));
       complete = λ none never more whole. (
-          let L : List Found → Type 0 = λ l. IsListed l (outcome_of output n (root ++ more)) in
+          let L : List FoundOutcome → Type 0 = λ l. IsListed l (outcome_of_run output n (root ++ more)) in
           subst L (sym found) (elim (option_cases (halted root)) [
             | inl some ↦ root_listed next output n under first met some.0 more law begun grows some.1 whole
             | inr free ↦ laws.all polls root more met.states met.found met.polled
@@ -314,8 +315,8 @@ explored_all next output n polls under first met looked explored laws begun way 
           ]));
       behind = subst B (sym left) (behind_root next output n root met looked way);
       divided_patient = λ more whole steady. (
-          let outcome : Outcome = outcome_of output n (root ++ more) in
-          let G : List Found → List (List Turn) → Type 0 = λ l r. IsListed l outcome ⊎ IsLeftPatient next output n polls r outcome in
+          let outcome : RunOutcome = outcome_of_run output n (root ++ more) in
+          let G : List FoundOutcome → List (List Turn) → Type 0 = λ l r. IsListed l outcome ⊎ IsLeftPatient next output n polls r outcome in
           subst (λ l. G l explored.left) (sym found) (subst (λ r. G met.found r) (sym left) (elim (option_cases (halted root)) [
             | inl some ↦ inl (root_listed next output n under first met some.0 more law begun grows some.1 whole)
             | inr free ↦ elim (divided next output n polls root met.states rest met.found met.polled (λ before events. Along (IsPatientEvent polls) before events) laws.steps laws.futures law
@@ -325,8 +326,8 @@ explored_all next output n polls under first met looked explored laws begun way 
                 ]
           ])));
       divided = λ never more whole. (
-          let outcome : Outcome = outcome_of output n (root ++ more) in
-          let G : List Found → List (List Turn) → Type 0 = λ l r. IsListed l outcome ⊎ IsLeft next output n r outcome in
+          let outcome : RunOutcome = outcome_of_run output n (root ++ more) in
+          let G : List FoundOutcome → List (List Turn) → Type 0 = λ l r. IsListed l outcome ⊎ IsReachableOutcome next output n r outcome in
           subst (λ l. G l explored.left) (sym found) (subst (λ r. G met.found r) (sym left) (elim (option_cases (halted root)) [
             | inl some ↦ inl (root_listed next output n under first met some.0 more law begun grows some.1 whole)
             | inr free ↦ elim (divided next output n polls root met.states rest met.found met.polled (IsFree met.polled) laws.steps laws.futures law

@@ -9,10 +9,10 @@ use Rattle.run_model.specs.declared.event.Event.{Event}
 use Rattle.run_model.specs.Allowed.{flags_of}
 use Rattle.run_model.specs.Pairs.{named}
 use Rattle.run_model.specs.Readiness.{is_ready}
-use Rattle.run_model.specs.Program.{AsksInBounds, IsInBounds}
+use Rattle.run_model.specs.Program.{AsksInBounds, IsCallInBounds}
 use Rattle.run_model.specs.Run.{IsRun}
 use Rattle.run_model.specs.Serial.{call_after}
-use Rattle.run_model.specs.Views.{Next, View, start_at, view_of}
+use Rattle.run_model.specs.Views.{Next, View, moment_at, moment_of, start_at, view_of}
 use Rattle.run_model.proofs.Choosing.{choice_some}
 use Rattle.run_model.proofs.Origins.{AllBelow}
 use Rattle.run_model.proofs.RunLaws.{Lawful, kept_run}
@@ -23,7 +23,7 @@ use Rattle.picked_runs.proofs.Allowing.{found_some, founded, pick_there, ready_t
 use Rattle.picked_runs.proofs.Narrowing.{suits_back}
 use Rattle.picked_runs.proofs.Places.{flag_within}
 use Rattle.picked_runs.specs.Turns.{IsPickOf}
-use Rattle.run_states.specs.Moves.{IsSettled}
+use Rattle.run_states.specs.Moves.{IsPickSettled}
 use Rattle.explore.specs.Searching.{IsIndexBelow, IsSenderBelow}
 
 -- a rank whose message is taken has sent one, so it is below n. (As in `picked_runs`, where it is private.)
@@ -66,10 +66,10 @@ sender_offered next n before me call sender run h =
     (parts.0, subst F (sym parts.0) less)
 
 one_within : (n : ℕ) (before : List Event) (me : ℕ) (call : Call) (index : ℕ) → completes_one call ≡ true
-    → slice_get (flags_of n before me (view_of before me) (listed_by call)) index ≡ Some true → (looks call ≡ false) × (index < length (listed_by call))
+    → slice_get (flags_of (moment_at n before me) (listed_by call)) index ≡ Some true → (looks call ≡ false) × (index < length (listed_by call))
 one_within n before me (Take starts mode) index h flag =
     let own : View = view_of before me in
-    (refl, flag_within (λ k. is_ready n before me own k (start_at own k)) starts index true flag)
+    (refl, flag_within (λ k. is_ready (moment_of n before me own) k (start_at own k)) starts index true flag)
 one_within n before me (Send comm dest tag ints sync) index h flag = absurd (cc)
 one_within n before me (Post comm source tag room) index h flag = absurd (cc)
 one_within n before me (Enter comm kind root op count ints) index h flag = absurd (cc)
@@ -82,8 +82,8 @@ pub index_offered : (n : ℕ) (before : List Event) (me : ℕ) (call : Call) (in
     → (looks call ≡ false) × (index < length (listed_by call))
 index_offered n before me call index h =
     let there = pick_there n before me call (Index index) (index_apart index) h in
-    let parts = and_parts (completes_one call) (is_ready_at (flags_of n before me (view_of before me) (listed_by call)) index) there.offered in
-    one_within n before me call index parts.0 (ready_there (flags_of n before me (view_of before me) (listed_by call)) index parts.1)
+    let parts = and_parts (completes_one call) (is_ready_at (flags_of (moment_at n before me) (listed_by call)) index) there.offered in
+    one_within n before me call index parts.0 (ready_there (flags_of (moment_at n before me) (listed_by call)) index parts.1)
 
 not_both : (b : Bool) → b ≡ true → b ≡ false → ⊥
 not_both b t f = (let no : true ≡ false = sym t ∙ f in cc)
@@ -91,7 +91,7 @@ not_both b t f = (let no : true ≡ false = sym t ∙ f in cc)
 -- where a sender is there, all that can be picked are senders
 pub only_senders : (next : Next) (n : ℕ) (before : List Event) (me : ℕ) (call : Call) (some : Pick) → IsRun next n before
     → IsSenderBelow (senders_of call n) some → has_pick n before me call some ≡ true
-    → (pick : Pick) → has_pick n before me call pick ≡ true → IsSettled n before me call pick → IsSenderBelow (senders_of call n) pick
+    → (pick : Pick) → has_pick n before me call pick ≡ true → IsPickSettled n before me call pick → IsSenderBelow (senders_of call n) pick
 only_senders next n before me call some run is offered (Sender sender) h settled = (sender, refl, (sender_offered next n before me call sender run h).1)
 only_senders next n before me call some run is offered (Index index) h settled =
     let P : Pick → Type 0 = λ p. has_pick n before me call p ≡ true in
@@ -102,7 +102,7 @@ only_senders next n before me call some run is offered First h settled =
     absurd (not_both (has_pick n before me call (Sender is.0)) (subst P is.1 offered) (settled.senders is.0))
 
 -- a start that is listed has a number that a turn can pick
-few_listed : (n got : ℕ) (call : Call) → IsInBounds n got call → length (listed_by call) ≤ MOST_STARTS
+few_listed : (n got : ℕ) (call : Call) → IsCallInBounds n got call → length (listed_by call) ≤ MOST_STARTS
 few_listed n got (Take starts mode) bounds = bounds.1
 few_listed n got (Send comm dest tag ints sync) bounds = omega arith
 few_listed n got (Post comm source tag room) bounds = omega arith
@@ -123,7 +123,7 @@ pick_within next n before me call (Sender sender) lawful asks run below asked h 
 pick_within next n before me call (Index index) lawful asks run below asked h =
     let kept = kept_run next n before lawful run in
     let own : View = view_of before me in
-    let bounds : IsInBounds n (length own) call = asks n me own call (run.some, run.few, below) (kept.came me below) asked in
+    let bounds : IsCallInBounds n (length own) call = asks n me own call (run.some, run.few, below) (kept.came me below) asked in
     let few : length (listed_by call) ≤ MOST_STARTS = few_listed n (length own) call bounds in
     let less : index < length (listed_by call) = (index_offered n before me call index h).1 in
     omega (arith, few, less)
@@ -138,7 +138,7 @@ IsChoiceOf n call pick = IsChoice (senders_of call n) (length (listed_by call)) 
 -- where a sender or an index is there, all that can be picked are such
 pub only_choices : (next : Next) (n : ℕ) (before : List Event) (me : ℕ) (call : Call) (some : Pick) → IsRun next n before
     → IsChoiceOf n call some → has_pick n before me call some ≡ true
-    → (pick : Pick) → has_pick n before me call pick ≡ true → IsSettled n before me call pick → IsChoiceOf n call pick
+    → (pick : Pick) → has_pick n before me call pick ≡ true → IsPickSettled n before me call pick → IsChoiceOf n call pick
 only_choices next n before me call some run is offered (Sender sender) h settled = inl (sender, refl, (sender_offered next n before me call sender run h).1)
 only_choices next n before me call some run is offered (Index index) h settled = inr (index, refl, (index_offered n before me call index h).1)
 only_choices next n before me call some run is offered First h settled =
@@ -153,7 +153,7 @@ abbrev pub IsChoiceOrNone : ℕ → Call → Pick → Type 0
 IsChoiceOrNone n call pick = IsChoiceOf n call pick ⊎ (First ≡ pick)
 
 pub any_choice : (next : Next) (n : ℕ) (before : List Event) (me : ℕ) (call : Call) → IsRun next n before
-    → (pick : Pick) → has_pick n before me call pick ≡ true → IsSettled n before me call pick → IsChoiceOrNone n call pick
+    → (pick : Pick) → has_pick n before me call pick ≡ true → IsPickSettled n before me call pick → IsChoiceOrNone n call pick
 any_choice next n before me call run First h settled = inr refl
 any_choice next n before me call run (Sender sender) h settled = inl (inl (sender, refl, (sender_offered next n before me call sender run h).1))
 any_choice next n before me call run (Index index) h settled = inl (inr (index, refl, (index_offered n before me call index h).1))

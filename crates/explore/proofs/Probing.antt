@@ -9,9 +9,9 @@ use Rattle.mpi_call.specs.declared.reply.Reply.TheVariants.{Done, Peeked}
 use Rattle.run_model.specs.declared.event.Event.{Event}
 use Rattle.run_model.specs.Pairs.{Name}
 use Rattle.run_model.specs.Views.{View, view_of}
-use Rattle.run_states.specs.Futures.{mate_in}
+use Rattle.run_states.specs.Futures.{mate_name}
 use Rattle.run_states.specs.Outcomes.{IsProbeKept}
-use Rattle.explore.specs.Probes.{AsksSame, last_or}
+use Rattle.explore.specs.inside.Probes.{AsksSame, last_or}
 
 abbrev Found : Call → Reply → Call × Reply
 Found call reply = (call, reply)
@@ -83,7 +83,7 @@ kept_other before event call reply seen other earlier comm source tag wait room 
     absurd (other sender start sent count p.reply_is)
 
 pub kept_by : (before : List Event) (event : Event) (call : Call) (sender start sent count : ℕ) → Some (call, Peeked sender start sent count) ≡ last_or None (view_of before event.rank)
-    → mate_in before event.mate ≡ Some (sender, start) → IsProbeKept before event
+    → mate_name before event.mate ≡ Some (sender, start) → IsProbeKept before event
 kept_by before event call rank number sent count seen mate earlier comm source tag wait room sender start sent' count' view receives done =
     let p = probe_seen before event call (Peeked rank number sent count) earlier comm source tag wait sender start sent' count' seen view in
     let e : Peeked rank number sent count ≡ Peeked sender start sent' count' = p.reply_is in
@@ -93,7 +93,7 @@ kept_by before event call rank number sent count seen mate earlier comm source t
     mate ∙ (ap (λ a. F a number) r ∙ ap (F sender) k)
 
 pub not_kept : (before : List Event) (event : Event) (call : Call) (sender start sent count : ℕ) → Some (call, Peeked sender start sent count) ≡ last_or None (view_of before event.rank)
-    → AsksSame event.call call → event.reply ≡ Done → (mate_in before event.mate ≡ Some (sender, start) → ⊥) → IsProbeKept before event → ⊥
+    → AsksSame event.call call → event.reply ≡ Done → (mate_name before event.mate ≡ Some (sender, start) → ⊥) → IsProbeKept before event → ⊥
 not_kept before event call sender start sent count seen asks done other kept =
     let l = found_last (view_of before event.rank) (call, Peeked sender start sent count) (sym seen) in
     let C : Call → Type 0 = λ c. view_of before event.rank ≡ l.0 ++ (c, Peeked sender start sent count) ∷ [] in

@@ -14,7 +14,7 @@ use Rattle.srr_record.specs.Rounds.{IsOnlyOf}
 use Rattle.srr_record.proofs.Running.{only_of, runs_set}
 use Rattle.quiet_calls.specs.Quiet.{Races}
 use Rattle.explore.specs.Courses.{IsCourse, IsQuietlyAnswered}
-use Rattle.explore.specs.Explored.{made_by}
+use Rattle.explore.specs.Explored.{events_of_turns}
 use Rattle.explore.specs.QuietFirst.{IsLastAnswered}
 use Rattle.explore.specs.Searching.{IsState, IsTurnMade}
 use Rattle.explore.proofs.QuietLooked.{quietly_made}
@@ -41,18 +41,18 @@ quiet_here {P} next standing program n races events after machine runs rank is t
     subst (λ l. F program n l) is.events_are (subst (λ m. F program m machine.events) is.ranks_are (subst (λ q. F q machine.ranks machine.events) is.program_is there))
 
 pub went_along : {P R : Type 0} (next : P → Next) (standing : R → Standing P) (program : P) (n : ℕ) (root : List Event) (turns : List Turn) (one two : MachineState P) (runs : List R) (run : R) (rank : ℕ)
-    → IsState (next program) n root turns → IsCourse standing program n (made_by (next program) n turns) one runs → rank < n → two.program ≡ one.program → two.ranks ≡ one.ranks
-    → IsRun (next program) n two.events → IsTurnMade (next program) n (made_by (next program) n turns) two.events (record { rank = rank; pick = First }) → IsLastAnswered two.events
+    → IsState (next program) n root turns → IsCourse standing program n (events_of_turns (next program) n turns) one runs → rank < n → two.program ≡ one.program → two.ranks ≡ one.ranks
+    → IsRun (next program) n two.events → IsTurnMade (next program) n (events_of_turns (next program) n turns) two.events (record { rank = rank; pick = First }) → IsLastAnswered two.events
     → IsAfter program n rank two.events (standing run)
-    → IsCourse standing program n (made_by (next program) n (turns ++ (record { rank = rank; pick = First }) ∷ [])) two (set runs rank run)
+    → IsCourse standing program n (events_of_turns (next program) n (turns ++ (record { rank = rank; pick = First }) ∷ [])) two (set runs rank run)
 went_along {P} {R} next standing program n root turns one two runs run rank state is below programs ranks all made last after =
-    let before : List Event = made_by (next program) n turns in
+    let before : List Event = events_of_turns (next program) n turns in
     let turn : Turn = record { rank = rank; pick = First } in
     let q : Event = picked_event n before rank made.call First in
     let none : halted two.events ≡ None =
     ap halted made.answered.events_are ∙ (halt_of_last before q state.free ∙ (quietly_made (next program) n before two.events rank made.call made.answered last).free) in
     let step = next_step (next program) n root turns two.events turn state below tt all made none in
-    let same : made_by (next program) n (turns ++ turn ∷ []) ≡ two.events = step.2.made in
+    let same : events_of_turns (next program) n (turns ++ turn ∷ []) ≡ two.events = step.made in
     let O : List Event → Type 0 = λ l. IsOnlyOf rank before l in
     let A : List Event → Type 0 = λ l. AreRuns standing program n l (set runs rank run) in
     record {

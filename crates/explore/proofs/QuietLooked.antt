@@ -8,7 +8,7 @@ use Rattle.mpi_call.specs.declared.reply.Reply.{Reply}
 use Rattle.mpi_call.specs.declared.call.Halt.{Halt}
 use Rattle.mpi_call.specs.declared.reply.Reply.TheVariants.{NotYet, Stopped}
 use Rattle.run_model.specs.declared.event.Event.{Event}
-use Rattle.run_model.specs.Due.{halt_in}
+use Rattle.run_model.specs.Due.{halt_of_reply}
 use Rattle.run_model.specs.Lists.{IsPrefixOf}
 use Rattle.run_model.specs.Serial.{call_after}
 use Rattle.run_model.specs.Views.{Next}
@@ -16,7 +16,8 @@ use Rattle.run_model.proofs.Views.{option_cases}
 use Rattle.picked_runs.specs.declared.turn.Pick.TheVariants.{First}
 use Rattle.picked_runs.specs.declared.turn.Turn.{Turn}
 use Rattle.picked_runs.specs.Picks.{picked_event, picked_reply}
-use Rattle.run_states.specs.Outcomes.{IsProbeKept, Output}
+use Rattle.srr_entry.specs.Outputs.{Output}
+use Rattle.run_states.specs.Outcomes.{IsProbeKept}
 use Rattle.quiet_calls.specs.Closure.{IsQuietCallMet}
 use Rattle.quiet_calls.specs.Quiet.{Races, is_quiet, is_reckoned}
 use Rattle.explore.specs.declared.met.Met.{Met}
@@ -24,9 +25,9 @@ use Rattle.explore.specs.declared.quiet.Hindrance.{Hindrance}
 use Rattle.explore.specs.declared.quiet.Look.{Look}
 use Rattle.explore.specs.declared.quiet.Look.TheVariants.{Followed, Hindered, Opened}
 use Rattle.explore.specs.Courses.{IsAnswered}
-use Rattle.explore.specs.Explored.{made_by}
+use Rattle.explore.specs.Explored.{events_of_turns}
 use Rattle.explore.specs.QuietFirst.{ArePassed, AreReckonedBelow, HasLookedAtQuietly, IsLastAnswered, is_hindered}
-use Rattle.explore.specs.Searching.{Grows, HasTried, IsFollowed, histories}
+use Rattle.explore.specs.Searching.{StaysMet, HasTried, IsFollowed, histories, question_of, seen_by}
 use Rattle.explore.proofs.Looking.{taken_more}
 use Rattle.explore.proofs.Stepping.{AreSame, snoc_same}
 use Rattle.explore.proofs.Tried.{stopped_by}
@@ -35,16 +36,16 @@ use Rattle.explore.proofs.Trying.{looked_longer, met_longer}
 -- 1. a quiet call that was made
 
 pub record IsQuietlyMade (next : Next) (n : ℕ) (before : List Event) (rank : ℕ) (call : Call) : Type 0 where
-  pub free : halt_in (picked_reply n before rank call First) ≡ None
+  pub free : halt_of_reply (picked_reply n before rank call First) ≡ None
   pub ready : picked_reply n before rank call First ≡ NotYet → ⊥
   pub probe : IsProbeKept before (picked_event n before rank call First)
 
-pub quietly_made : (next : Next) (n : ℕ) (before after : List Event) (rank : ℕ) (call : Call) → IsAnswered next n before after rank call First → IsLastAnswered after
+pub quietly_made : (next : Next) (n : ℕ) (before after : List Event) (rank : ℕ) (call : Call) → IsAnswered next n before after (record { rank = rank; pick = First }) call → IsLastAnswered after
     → IsQuietlyMade next n before rank call
 quietly_made next n before after rank call answered last =
     let q : Event = picked_event n before rank call First in
     let s : AreSame last.before before last.event q = snoc_same last.before before last.event q (sym last.whole ∙ answered.events_are) in
-    let F : Event → Type 0 = λ e. halt_in e.reply ≡ None in
+    let F : Event → Type 0 = λ e. halt_of_reply e.reply ≡ None in
     let R : Event → Type 0 = λ e. e.reply ≡ NotYet → ⊥ in
     let P : List Event → Event → Type 0 = λ l e. IsProbeKept l e in
     record {
@@ -54,15 +55,15 @@ quietly_made next n before after rank call answered last =
     }
 
 pub quiet_met : (next : Next) (output : Output) (n polls : ℕ) (races : Races) (met : Met) (before after : List Event) (rank : ℕ) (call : Call) → rank < n
-    → call_after next n before rank ≡ Some call → is_quiet races call ≡ true → IsAnswered next n before after rank call First → IsLastAnswered after
-    → HasTried next output n polls met before (record { rank = rank; pick = First }) → IsQuietCallMet next n races (histories next n met.states) before
+    → call_after next n before rank ≡ Some call → is_quiet races call ≡ true → IsAnswered next n before after (record { rank = rank; pick = First }) call → IsLastAnswered after
+    → HasTried (question_of next output n polls) met before (record { rank = rank; pick = First }) → IsQuietCallMet next n races (histories next n met.states) before
 quiet_met next output n polls races met before after rank call below asked kind answered last tried =
     let made : IsQuietlyMade next n before rank call = quietly_made next n before after rank call answered last in
     let both : Some tried.call ≡ Some call = sym tried.asked ∙ asked in
     let same : tried.call ≡ call = cc in
-    let M : Call → Type 0 = λ c. halt_in (picked_reply n before rank c First) ≡ None → IsProbeKept before (picked_event n before rank c First)
-    → IsFollowed next n polls met.states met.polled before (picked_event n before rank c First) in
-    let followed : IsFollowed next n polls met.states met.polled before (picked_event n before rank call First) = subst M same tried.moves made.free made.probe in
+    let M : Call → Type 0 = λ c. halt_of_reply (picked_reply n before rank c First) ≡ None → IsProbeKept before (picked_event n before rank c First)
+    → IsFollowed next n polls (seen_by met) before (picked_event n before rank c First) in
+    let followed : IsFollowed next n polls (seen_by met) before (picked_event n before rank call First) = subst M same tried.moves made.free made.probe in
     record {
       rank = rank;
       call = call;
@@ -95,27 +96,27 @@ reckoned_more next n races before rank next_call is here earlier other call belo
 -- 3. what was looked at stays looked at
 
 pub quietly_longer : (next : Next) (output : Output) (n polls : ℕ) (races : Races) (met met' : Met) (turns : List Turn)
-    → Grows met.states met'.states met.found met'.found met.polled met'.polled → HasLookedAtQuietly next output n polls races met turns
-    → HasLookedAtQuietly next output n polls races met' turns
+    → StaysMet met.states met'.states met.found met'.found met.polled met'.polled → HasLookedAtQuietly (question_of next output n polls) races met turns
+    → HasLookedAtQuietly (question_of next output n polls) races met' turns
 quietly_longer next output n polls races met met' turns grows l =
     record {
       reckoned = l.reckoned;
       looked = elim l.looked [
-        | inl wide ↦ inl (looked_longer next output n polls met.states met'.states met.found met'.found met.polled met'.polled (made_by next n turns) grows wide)
+        | inl wide ↦ inl (looked_longer next output n polls met.states met'.states met.found met'.found met.polled met'.polled (events_of_turns next n turns) grows wide)
         | inr quiet ↦ inr (record {
           rank = quiet.rank;
           call = quiet.call;
           quiet = quiet.quiet;
-          met = met_longer next n met.states met'.states (made_by next n turns ++ picked_event n (made_by next n turns) quiet.rank quiet.call First ∷ []) grows.states_stay quiet.met;
+          met = met_longer next n met.states met'.states (events_of_turns next n turns ++ picked_event n (events_of_turns next n turns) quiet.rank quiet.call First ∷ []) grows.states_stay quiet.met;
         })
       ];
     }
 
 -- 4. whether the last event was answered
 
-not_stopped : (reply : Reply) → ((halt : Halt) → reply ≡ Stopped halt → ⊥) → halt_in reply ≡ None
+not_stopped : (reply : Reply) → ((halt : Halt) → reply ≡ Stopped halt → ⊥) → halt_of_reply reply ≡ None
 not_stopped reply free =
-    elim (option_cases (halt_in reply)) [
+    elim (option_cases (halt_of_reply reply)) [
       | inl some ↦ absurd (free some.0 (stopped_by reply some.0 some.1))
       | inr none ↦ none
     ]
@@ -146,11 +147,11 @@ some_none h = absurd (cc)
 -- 6. all states
 
 pub quietly_more : (next : Next) (output : Output) (n polls : ℕ) (races : Races) (met met' : Met) (at : ℕ) (turns : List Turn)
-    → Grows met.states met'.states met.found met'.found met.polled met'.polled → slice_get met.states at ≡ Some turns
-    → ((one : List Turn) → IsIn one (take at met.states) → HasLookedAtQuietly next output n polls races met one) → HasLookedAtQuietly next output n polls races met' turns
-    → (one : List Turn) → IsIn one (take (at + 1) met'.states) → HasLookedAtQuietly next output n polls races met' one
+    → StaysMet met.states met'.states met.found met'.found met.polled met'.polled → slice_get met.states at ≡ Some turns
+    → ((one : List Turn) → IsIn one (take at met.states) → HasLookedAtQuietly (question_of next output n polls) races met one) → HasLookedAtQuietly (question_of next output n polls) races met' turns
+    → (one : List Turn) → IsIn one (take (at + 1) met'.states) → HasLookedAtQuietly (question_of next output n polls) races met' one
 quietly_more next output n polls races met met' at turns grows got all here =
-    let L : List Turn → Type 0 = λ l. HasLookedAtQuietly next output n polls races met' l in
+    let L : List Turn → Type 0 = λ l. HasLookedAtQuietly (question_of next output n polls) races met' l in
     taken_more L at turns met.states met'.states grows.states_stay got (λ one front. quietly_longer next output n polls races met met' one grows (all one front)) here
 
 pub not_below : (a b : ℕ) → false ≡ nat_lt a b → b ≤ a
@@ -186,14 +187,14 @@ got_longer {A} k xs ys x longer got =
     subst F longer.1 (got_front k xs longer.0 x got)
 
 pub passed_longer : (next : Next) (output : Output) (n polls : ℕ) (races : Races) (met met' : Met) (places : List ℕ)
-    → Grows met.states met'.states met.found met'.found met.polled met'.polled → ArePassed next output n polls races met places → ArePassed next output n polls races met' places
+    → StaysMet met.states met'.states met.found met'.found met.polled met'.polled → ArePassed (question_of next output n polls) races met places → ArePassed (question_of next output n polls) races met' places
 passed_longer next output n polls races met met' places grows passed place there =
     let p = passed place there in
     (p.0, got_longer place met.states met'.states p.0 grows.states_stay p.1, quietly_longer next output n polls races met met' p.0 grows p.2)
 
 pub passed_more : (next : Next) (output : Output) (n polls : ℕ) (races : Races) (met : Met) (places : List ℕ) (place : ℕ) (turns : List Turn)
-    → ArePassed next output n polls races met places → slice_get met.states place ≡ Some turns → HasLookedAtQuietly next output n polls races met turns
-    → ArePassed next output n polls races met (places ++ place ∷ [])
+    → ArePassed (question_of next output n polls) races met places → slice_get met.states place ≡ Some turns → HasLookedAtQuietly (question_of next output n polls) races met turns
+    → ArePassed (question_of next output n polls) races met (places ++ place ∷ [])
 passed_more next output n polls races met [] place turns passed got looked other there =
     elim there [
       | inl same ↦ (turns, (let F : ℕ → Type 0 = λ p. slice_get met.states p ≡ Some turns in subst F same got), looked)
@@ -207,9 +208,9 @@ passed_more next output n polls races met (first ∷ places) place turns passed 
 
 -- where a state was looked at its place is among them
 pub passed_by : (next : Next) (output : Output) (n polls : ℕ) (races : Races) (met met' : Met) (hindered : Bool) (places : List ℕ) (place : ℕ) (turns : List Turn)
-    → Grows met.states met'.states met.found met'.found met.polled met'.polled → ArePassed next output n polls races met places → slice_get met.states place ≡ Some turns
-    → (hindered ≡ false → HasLookedAtQuietly next output n polls races met' turns)
-    → ArePassed next output n polls races met' (if hindered then places else places ++ place ∷ [])
+    → StaysMet met.states met'.states met.found met'.found met.polled met'.polled → ArePassed (question_of next output n polls) races met places → slice_get met.states place ≡ Some turns
+    → (hindered ≡ false → HasLookedAtQuietly (question_of next output n polls) races met' turns)
+    → ArePassed (question_of next output n polls) races met' (if hindered then places else places ++ place ∷ [])
 passed_by next output n polls races met met' true places place turns grows passed got looked = passed_longer next output n polls races met met' places grows passed
 passed_by next output n polls races met met' false places place turns grows passed got looked =
     passed_more next output n polls races met' places place turns (passed_longer next output n polls races met met' places grows passed)

@@ -2,10 +2,10 @@
 use Rattle.std.proofs.Common.{◌≡◌, ◌&&◌, ◌||◌, if◌then◌else◌, ℕ, Bool, List, [], ◌∷◌, Option, Some, None, false, true, is_some, refl, subst}
 use Rattle.mpi_call.specs.declared.call.Call.{Call}
 use Rattle.run_model.specs.declared.event.Event.{Event}
-use Rattle.run_model.specs.Due.{halt_in}
+use Rattle.run_model.specs.Due.{halt_of_reply}
 use Rattle.quiet_calls.specs.Quiet.{is_calm, is_reckoned}
 use Rattle.explore.specs.declared.races.Race.{Race}
-use Rattle.explore.specs.RaceFlags.{RaceFlags, first_race, race_in, race_next, race_of, races_of}
+use Rattle.explore.specs.inside.RaceFlags.{RaceFlags, first_race, race_in, race_next, race_of, races_of}
 
 none_if : (b : Bool) (race : Race) → (if b then None else Some race) ≡ None → b ≡ true
 none_if true race h = refl
@@ -36,5 +36,5 @@ pub in_calm : (flags : RaceFlags) (events : List Event) → race_in flags events
 in_calm flags [] h = refl
 in_calm flags (event ∷ events) h =
     let parts = first_none (race_of flags event.rank event.call) (race_in flags events) h in
-    both_hold (is_reckoned (races_of flags) event.rank event.call) (is_some (halt_in event.reply)) (is_calm (races_of flags) events)
+    both_hold (is_reckoned (races_of flags) event.rank event.call) (is_some (halt_of_reply event.reply)) (is_calm (races_of flags) events)
     (of_none flags event.rank event.call parts.0) (in_calm flags events parts.1)

@@ -10,9 +10,9 @@ use Rattle.picked_runs.specs.declared.turn.Pick.{Pick}
 use Rattle.picked_runs.specs.declared.turn.Pick.TheVariants.{First, Sender, Index}
 use Rattle.picked_runs.specs.declared.turn.Turn.{Turn}
 use Rattle.picked_runs.specs.Picks.{has_pick}
-use Rattle.run_states.specs.Outcomes.{Output}
+use Rattle.srr_entry.specs.Outputs.{Output}
 use Rattle.explore.specs.declared.met.Met.{Met}
-use Rattle.explore.specs.Searching.{Grows, HasTried, HasTriedPicks, IsAnyPick, IsIndexBelow, IsSenderBelow, IsUnanswered, WentOn}
+use Rattle.explore.specs.Searching.{StaysMet, HasTried, HasTriedPicks, IsAnyPick, IsIndexBelow, IsSenderBelow, IsUnanswered, WentOn, question_of}
 use Rattle.explore.proofs.Joining.{AreBoth, IsPick, last_below, one_not, one_tried, picks_all, picks_both, same_call}
 use Rattle.explore.proofs.Offering.{IsChoiceOf, IsChoiceOrNone, any_choice, only_choices, only_senders, senders_of}
 use Rattle.explore.proofs.Trying.{grows_on}
@@ -27,8 +27,8 @@ went_trans next output n root one two three a b =
 
 -- one turn, answered or not
 one_of : (next : Next) (output : Output) (n polls : ℕ) (met : Met) (before : List Event) (turn : Turn) (answered : Bool) → IsRun next n before → turn.rank < n
-    → MatchBool answered (HasTried next output n polls met before turn) (IsUnanswered next n before turn)
-    → HasTriedPicks next output n polls met before turn.rank (IsPick turn.pick) answered
+    → MatchBool answered (HasTried (question_of next output n polls) met before turn) (IsUnanswered next n before turn)
+    → HasTriedPicks (question_of next output n polls) met before turn.rank (IsPick turn.pick) answered
 one_of next output n polls met before turn true run below tried = one_tried next output n polls met before turn run below tried
 one_of next output n polls met before turn false run below not = one_not next output n polls met before turn run not
 
@@ -48,12 +48,12 @@ or_with false true = refl
 or_with false false = refl
 
 turn_more : (next : Next) (output : Output) (n polls : ℕ) (met met' : Met) (before : List Event) (turn : Turn) (One Both : Pick → Type 0) (made answered : Bool)
-    → IsRun next n before → turn.rank < n → AreBoth One (IsPick turn.pick) Both → Grows met.states met'.states met.found met'.found met.polled met'.polled
-    → HasTriedPicks next output n polls met before turn.rank One made
-    → MatchBool answered (HasTried next output n polls met' before turn) (IsUnanswered next n before turn)
-    → HasTriedPicks next output n polls met' before turn.rank Both (if answered then true else made)
+    → IsRun next n before → turn.rank < n → AreBoth One (IsPick turn.pick) Both → StaysMet met.states met'.states met.found met'.found met.polled met'.polled
+    → HasTriedPicks (question_of next output n polls) met before turn.rank One made
+    → MatchBool answered (HasTried (question_of next output n polls) met' before turn) (IsUnanswered next n before turn)
+    → HasTriedPicks (question_of next output n polls) met' before turn.rank Both (if answered then true else made)
 turn_more next output n polls met met' before turn One Both made answered run below are grows tried one =
-    let F : Bool → Type 0 = λ b. HasTriedPicks next output n polls met' before turn.rank Both b in
+    let F : Bool → Type 0 = λ b. HasTriedPicks (question_of next output n polls) met' before turn.rank Both b in
     subst F (or_with made answered) (picks_both next output n polls met met' before turn.rank One (IsPick turn.pick) Both made answered are grows tried
     (one_of next output n polls met' before turn answered run below one))
 
@@ -80,25 +80,25 @@ index_both low =
     }
 
 pub sender_more : (next : Next) (output : Output) (n polls : ℕ) (met met' : Met) (before : List Event) (rank low : ℕ) (made answered : Bool)
-    → IsRun next n before → rank < n → Grows met.states met'.states met.found met'.found met.polled met'.polled
-    → HasTriedPicks next output n polls met before rank (IsSenderBelow low) made
-    → MatchBool answered (HasTried next output n polls met' before (record { rank = rank; pick = Sender low })) (IsUnanswered next n before (record { rank = rank; pick = Sender low }))
-    → HasTriedPicks next output n polls met' before rank (IsSenderBelow (low + 1)) (if answered then true else made)
+    → IsRun next n before → rank < n → StaysMet met.states met'.states met.found met'.found met.polled met'.polled
+    → HasTriedPicks (question_of next output n polls) met before rank (IsSenderBelow low) made
+    → MatchBool answered (HasTried (question_of next output n polls) met' before (record { rank = rank; pick = Sender low })) (IsUnanswered next n before (record { rank = rank; pick = Sender low }))
+    → HasTriedPicks (question_of next output n polls) met' before rank (IsSenderBelow (low + 1)) (if answered then true else made)
 sender_more next output n polls met met' before rank low made answered run below grows tried one =
     turn_more next output n polls met met' before (record { rank = rank; pick = Sender low }) (IsSenderBelow low) (IsSenderBelow (low + 1)) made answered run below (sender_both low) grows tried one
 
 pub index_more : (next : Next) (output : Output) (n polls : ℕ) (met met' : Met) (before : List Event) (rank low : ℕ) (made answered : Bool)
-    → IsRun next n before → rank < n → Grows met.states met'.states met.found met'.found met.polled met'.polled
-    → HasTriedPicks next output n polls met before rank (IsIndexBelow low) made
-    → MatchBool answered (HasTried next output n polls met' before (record { rank = rank; pick = Index low })) (IsUnanswered next n before (record { rank = rank; pick = Index low }))
-    → HasTriedPicks next output n polls met' before rank (IsIndexBelow (low + 1)) (if answered then true else made)
+    → IsRun next n before → rank < n → StaysMet met.states met'.states met.found met'.found met.polled met'.polled
+    → HasTriedPicks (question_of next output n polls) met before rank (IsIndexBelow low) made
+    → MatchBool answered (HasTried (question_of next output n polls) met' before (record { rank = rank; pick = Index low })) (IsUnanswered next n before (record { rank = rank; pick = Index low }))
+    → HasTriedPicks (question_of next output n polls) met' before rank (IsIndexBelow (low + 1)) (if answered then true else made)
 index_more next output n polls met met' before rank low made answered run below grows tried one =
     turn_more next output n polls met met' before (record { rank = rank; pick = Index low }) (IsIndexBelow low) (IsIndexBelow (low + 1)) made answered run below (index_both low) grows tried one
 
 -- a sender was there: then only senders can be picked
 pub rank_senders : (next : Next) (output : Output) (n polls : ℕ) (met : Met) (before : List Event) (rank : ℕ) (call : Call) → IsRun next n before
-    → call_after next n before rank ≡ Some call → HasTriedPicks next output n polls met before rank (IsSenderBelow (senders_of call n)) true
-    → HasTriedPicks next output n polls met before rank IsAnyPick true
+    → call_after next n before rank ≡ Some call → HasTriedPicks (question_of next output n polls) met before rank (IsSenderBelow (senders_of call n)) true
+    → HasTriedPicks (question_of next output n polls) met before rank IsAnyPick true
 rank_senders next output n polls met before rank call run asked tried =
     let s = tried.some refl in
     let same : s.0 ≡ call = same_call (call_after next n before rank) s.0 call s.3 asked in
@@ -111,12 +111,12 @@ choice_both n call = record { parts = λ pick is. is; first = λ pick is. inl is
 
 -- no sender was there, but a start at some index
 pub rank_indices : (next : Next) (output : Output) (n polls : ℕ) (met met' : Met) (before : List Event) (rank : ℕ) (call : Call) → IsRun next n before
-    → call_after next n before rank ≡ Some call → Grows met.states met'.states met.found met'.found met.polled met'.polled
-    → HasTriedPicks next output n polls met before rank (IsSenderBelow (senders_of call n)) false
-    → HasTriedPicks next output n polls met' before rank (IsIndexBelow (length (listed_by call))) true
-    → HasTriedPicks next output n polls met' before rank IsAnyPick true
+    → call_after next n before rank ≡ Some call → StaysMet met.states met'.states met.found met'.found met.polled met'.polled
+    → HasTriedPicks (question_of next output n polls) met before rank (IsSenderBelow (senders_of call n)) false
+    → HasTriedPicks (question_of next output n polls) met' before rank (IsIndexBelow (length (listed_by call))) true
+    → HasTriedPicks (question_of next output n polls) met' before rank IsAnyPick true
 rank_indices next output n polls met met' before rank call run asked grows senders indices =
-    let tried : HasTriedPicks next output n polls met' before rank (IsChoiceOf n call) true =
+    let tried : HasTriedPicks (question_of next output n polls) met' before rank (IsChoiceOf n call) true =
     picks_both next output n polls met met' before rank (IsSenderBelow (senders_of call n)) (IsIndexBelow (length (listed_by call))) (IsChoiceOf n call) false true (choice_both n call) grows senders indices in
     let s = tried.some refl in
     let same : s.0 ≡ call = same_call (call_after next n before rank) s.0 call s.3 asked in
@@ -126,17 +126,17 @@ rank_indices next output n polls met met' before rank call run asked grows sende
 
 -- neither: then nothing was picked
 pub rank_first : (next : Next) (output : Output) (n polls : ℕ) (one two three : Met) (before : List Event) (rank : ℕ) (call : Call) (answered : Bool) → IsRun next n before → rank < n
-    → call_after next n before rank ≡ Some call → Grows one.states two.states one.found two.found one.polled two.polled
-    → Grows two.states three.states two.found three.found two.polled three.polled
-    → HasTriedPicks next output n polls one before rank (IsSenderBelow (senders_of call n)) false
-    → HasTriedPicks next output n polls two before rank (IsIndexBelow (length (listed_by call))) false
-    → MatchBool answered (HasTried next output n polls three before (record { rank = rank; pick = First })) (IsUnanswered next n before (record { rank = rank; pick = First }))
-    → HasTriedPicks next output n polls three before rank IsAnyPick answered
+    → call_after next n before rank ≡ Some call → StaysMet one.states two.states one.found two.found one.polled two.polled
+    → StaysMet two.states three.states two.found three.found two.polled three.polled
+    → HasTriedPicks (question_of next output n polls) one before rank (IsSenderBelow (senders_of call n)) false
+    → HasTriedPicks (question_of next output n polls) two before rank (IsIndexBelow (length (listed_by call))) false
+    → MatchBool answered (HasTried (question_of next output n polls) three before (record { rank = rank; pick = First })) (IsUnanswered next n before (record { rank = rank; pick = First }))
+    → HasTriedPicks (question_of next output n polls) three before rank IsAnyPick answered
 rank_first next output n polls one two three before rank call answered run below asked grows more senders indices tried =
-    let choices : HasTriedPicks next output n polls two before rank (IsChoiceOf n call) false =
+    let choices : HasTriedPicks (question_of next output n polls) two before rank (IsChoiceOf n call) false =
     picks_both next output n polls one two before rank (IsSenderBelow (senders_of call n)) (IsIndexBelow (length (listed_by call))) (IsChoiceOf n call) false false (choice_both n call) grows senders indices in
     let turn : Turn = record { rank = rank; pick = First } in
-    let all : HasTriedPicks next output n polls three before rank (IsChoiceOrNone n call) answered =
+    let all : HasTriedPicks (question_of next output n polls) three before rank (IsChoiceOrNone n call) answered =
     picks_both next output n polls two three before rank (IsChoiceOf n call) (IsPick First) (IsChoiceOrNone n call) false answered
     (record { parts = λ pick is. is; first = λ pick is. inl is; second = λ pick is. inr is }) more choices (one_of next output n polls three before turn answered run below tried) in
     picks_all next output n polls three before rank call (IsChoiceOrNone n call) answered asked (any_choice next n before rank call run) (λ no. inr refl) all

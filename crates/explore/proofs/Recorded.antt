@@ -7,11 +7,11 @@ use Rattle.mpi_call.specs.declared.reply.Reply.TheVariants.{Done, Stopped}
 use Rattle.run_model.specs.declared.event.Event.{Event}
 use Rattle.run_model.specs.Allowed.{IsAllowedBy, IsStuck, can_go}
 use Rattle.run_model.specs.Chosen.{chosen_event}
-use Rattle.run_model.specs.Due.{halt_at, halt_in, halted, is_full, or_else}
+use Rattle.run_model.specs.Due.{halt_at, halt_of_reply, halted, is_full, or_else}
 use Rattle.run_model.specs.Lists.{Along, IsPrefixOf, world}
 use Rattle.run_model.specs.Run.{IsEvent, IsRun}
-use Rattle.run_model.specs.Serial.{Stage, appended, at_first, attempt, attempt_with, attempts, call_after, is_stuck, others_wait, rounds}
-use Rattle.run_model.specs.Views.{Next, view_of}
+use Rattle.run_model.specs.Serial.{Stage, with_chosen_event, first_stage, attempt, attempt_with, attempts, call_after, is_stuck, others_wait, rounds}
+use Rattle.run_model.specs.Views.{Next, moment_at, view_of}
 use Rattle.run_model.proofs.ChosenLaws.{cannot_go}
 use Rattle.run_model.proofs.Prefixes.{prefix_append, prefix_refl, prefix_trans}
 use Rattle.run_model.proofs.RunLaws.{IsRun-event}
@@ -20,11 +20,12 @@ use Rattle.picked_runs.specs.declared.turn.Pick.{Pick}
 use Rattle.picked_runs.specs.declared.turn.Pick.TheVariants.{First, Sender, Index}
 use Rattle.picked_runs.specs.declared.turn.Turn.{Turn}
 use Rattle.picked_runs.specs.Picks.{has_pick, picked_event}
-use Rattle.picked_runs.specs.Turns.{IsTaken, answered, take_turn, take_turns, turn_with}
+use Rattle.picked_runs.specs.Turns.{IsRunByTurns, answered, take_turn, take_turns, turn_with}
 use Rattle.picked_runs.proofs.Firsts.{first_event}
-use Rattle.run_states.specs.Outcomes.{IsProbeKept, Output, halted_outcome, outcome_of}
+use Rattle.srr_entry.specs.Outputs.{Output}
+use Rattle.run_states.specs.Outcomes.{IsProbeKept, halted_outcome, outcome_of_run}
 use Rattle.run_states.specs.StateLaws.{HaltsDecideOutcomes}
-use Rattle.explore.specs.Explored.{made_by}
+use Rattle.explore.specs.Explored.{events_of_turns}
 
 -- 1. turns and rounds take no event back
 
@@ -67,9 +68,9 @@ turn_grows next n stage rank (Sender sender) (Some call) = answered_grows next n
 turn_grows next n stage rank (Index index) (Some call) = answered_grows next n stage rank call (Index index)
 
 -- a recording begins with what its turns make
-pub taken_begins : (next : Next) (n : ℕ) (turns : List Turn) (run : List Event) → IsTaken next n turns run → IsPrefixOf (made_by next n turns) run
+pub taken_begins : (next : Next) (n : ℕ) (turns : List Turn) (run : List Event) → IsRunByTurns next n turns run → IsPrefixOf (events_of_turns next n turns) run
 taken_begins next n turns run taken =
-    let longer = rounds_grow next n taken.count (take_turns next n at_first turns) in
+    let longer = rounds_grow next n taken.count (take_turns next n first_stage turns) in
     (longer.0, longer.1 ∙ taken.made)
 
 -- 2. one more turn
@@ -78,32 +79,32 @@ turns_append : (next : Next) (n : ℕ) (stage : Stage) (xs ys : List Turn) → t
 turns_append next n stage [] ys = refl
 turns_append next n stage (x ∷ xs) ys = turns_append next n (take_turn next n stage x) xs ys
 
-pub turn_begins : (next : Next) (n : ℕ) (turns : List Turn) (turn : Turn) → IsPrefixOf (made_by next n turns) (made_by next n (turns ++ turn ∷ []))
+pub turn_begins : (next : Next) (n : ℕ) (turns : List Turn) (turn : Turn) → IsPrefixOf (events_of_turns next n turns) (events_of_turns next n (turns ++ turn ∷ []))
 turn_begins next n turns turn =
-    let stage : Stage = take_turns next n at_first turns in
+    let stage : Stage = take_turns next n first_stage turns in
     let F : Stage → Type 0 = λ s. IsPrefixOf stage.events s.events in
-    subst F (sym (turns_append next n at_first turns (turn ∷ []))) (turn_grows next n stage turn.rank turn.pick (call_after next n stage.events turn.rank))
+    subst F (sym (turns_append next n first_stage turns (turn ∷ []))) (turn_grows next n stage turn.rank turn.pick (call_after next n stage.events turn.rank))
 
 turned : (next : Next) (n : ℕ) (stage : Stage) (rank : ℕ) (call : Call) (pick : Pick) → has_pick n stage.events rank call pick ≡ true
     → can_go n stage.events rank (view_of stage.events rank) call ≡ true → turn_with next n stage rank pick (Some call) ≡ answered n stage rank call pick
 turned next n stage rank call First offered goes =
     let left : List ℕ = filter (λ other. not (other == rank)) stage.waiting in
     let after : Event → Stage = λ e. record { events = stage.events ++ e ∷ []; waiting = left } in
-    let went : attempt_with next n stage rank (Some call) ≡ appended n stage rank call = rw goes in
+    let went : attempt_with next n stage rank (Some call) ≡ with_chosen_event n stage rank call = rw goes in
     went ∙ ap after (sym (first_event n stage.events rank call))
 turned next n stage rank call (Sender sender) offered goes = rw offered
 turned next n stage rank call (Index index) offered goes = rw offered
 
 -- a turn whose call can go, and whose pick is there, makes its event
-pub turn_made : (next : Next) (n : ℕ) (turns : List Turn) (turn : Turn) (call : Call) → call_after next n (made_by next n turns) turn.rank ≡ Some call
-    → has_pick n (made_by next n turns) turn.rank call turn.pick ≡ true
-    → can_go n (made_by next n turns) turn.rank (view_of (made_by next n turns) turn.rank) call ≡ true
-    → made_by next n (turns ++ turn ∷ []) ≡ made_by next n turns ++ picked_event n (made_by next n turns) turn.rank call turn.pick ∷ []
+pub turn_made : (next : Next) (n : ℕ) (turns : List Turn) (turn : Turn) (call : Call) → call_after next n (events_of_turns next n turns) turn.rank ≡ Some call
+    → has_pick n (events_of_turns next n turns) turn.rank call turn.pick ≡ true
+    → can_go n (events_of_turns next n turns) turn.rank (view_of (events_of_turns next n turns) turn.rank) call ≡ true
+    → events_of_turns next n (turns ++ turn ∷ []) ≡ events_of_turns next n turns ++ picked_event n (events_of_turns next n turns) turn.rank call turn.pick ∷ []
 turn_made next n turns turn call asked offered goes =
-    let stage : Stage = take_turns next n at_first turns in
+    let stage : Stage = take_turns next n first_stage turns in
     let moved : take_turn next n stage turn ≡ answered n stage turn.rank call turn.pick =
     ap (turn_with next n stage turn.rank turn.pick) asked ∙ turned next n stage turn.rank call turn.pick offered goes in
-    ap (λ (s : Stage). s.events) (turns_append next n at_first turns (turn ∷ []) ∙ moved)
+    ap (λ (s : Stage). s.events) (turns_append next n first_stage turns (turn ∷ []) ∙ moved)
 
 -- 3. what runs come to that go on from a history
 
@@ -119,31 +120,31 @@ none_behind next n before (event ∷ after) run ended =
     absurd (cc)
 
 pub ended_comes : (next : Next) (output : Output) (n : ℕ) (before run : List Event) → IsPrefixOf before run → IsRun next n run → HaveEnded next n before
-    → outcome_of output n run ≡ outcome_of output n before
+    → outcome_of_run output n run ≡ outcome_of_run output n before
 ended_comes next output n before run begins is ended =
     let R : List Event → Type 0 = λ l. IsRun next n l in
     let none : begins.0 ≡ [] = none_behind next n before begins.0 (subst R (sym begins.1) is) ended in
-    ap (outcome_of output n) (sym begins.1 ∙ (ap (λ l. before ++ l) none ∙ append-nil before))
+    ap (outcome_of_run output n) (sym begins.1 ∙ (ap (λ l. before ++ l) none ∙ append-nil before))
 
 -- a halt right behind it decides
 halt_decides : (next : Next) (output : Output) (n : ℕ) → HaltsDecideOutcomes next output n → (before after run : List Event) (event : Event) (halt : Halt)
     → before ++ event ∷ after ≡ run → IsRun next n run → HaveEnded next n run → halted before ≡ None → event.reply ≡ Stopped halt
-    → outcome_of output n run ≡ halted_outcome next output n before halt
+    → outcome_of_run output n run ≡ halted_outcome next output n before halt
 halt_decides next output n law before after run event halt whole is ended free stopped =
     let R : List Event → Type 0 = λ l. IsRun next n l in
     let E : List Event → Type 0 = λ l. HaveEnded next n l in
-    ap (outcome_of output n) (sym whole) ∙ law before after event halt (subst R (sym whole) is) (subst E (sym whole) ended) free stopped
+    ap (outcome_of_run output n) (sym whole) ∙ law before after event halt (subst R (sym whole) is) (subst E (sym whole) ended) free stopped
 
 pub halted_comes : (next : Next) (output : Output) (n : ℕ) → HaltsDecideOutcomes next output n → (before run : List Event) (event : Event) (halt : Halt)
     → IsPrefixOf (before ++ event ∷ []) run → IsRun next n run → HaveEnded next n run → halted before ≡ None → event.reply ≡ Stopped halt
-    → outcome_of output n run ≡ halted_outcome next output n before halt
+    → outcome_of_run output n run ≡ halted_outcome next output n before halt
 halted_comes next output n law before run event halt begins is ended free stopped =
     halt_decides next output n law before begins.0 run event halt (sym (append_assoc before (event ∷ []) begins.0) ∙ begins.1) is ended free stopped
 
 -- where nothing can go and a rank is live, the next event is Stuck
 stuck_behind : (next : Next) (output : Output) (n : ℕ) → HaltsDecideOutcomes next output n → (before rest run : List Event) (rank : ℕ) (call : Call)
     → before ++ rest ≡ run → IsRun next n run → HaveEnded next n run → halted before ≡ None → IsStuck next n before
-    → rank < n → call_after next n before rank ≡ Some call → outcome_of output n run ≡ halted_outcome next output n before Stuck
+    → rank < n → call_after next n before rank ≡ Some call → outcome_of_run output n run ≡ halted_outcome next output n before Stuck
 stuck_behind next output n law before [] run rank call whole is ended free stuck below asked =
     let same : before ≡ run = sym (append-nil before) ∙ whole in
     let F : List Event → Type 0 = λ l. call_after next n l rank ≡ Some call in
@@ -157,7 +158,7 @@ stuck_behind next output n law before (event ∷ rest) run rank call whole is en
 
 pub stuck_comes : (next : Next) (output : Output) (n : ℕ) → HaltsDecideOutcomes next output n → (before run : List Event) (rank : ℕ) (call : Call)
     → IsPrefixOf before run → IsRun next n run → HaveEnded next n run → halted before ≡ None → IsStuck next n before
-    → rank < n → call_after next n before rank ≡ Some call → outcome_of output n run ≡ halted_outcome next output n before Stuck
+    → rank < n → call_after next n before rank ≡ Some call → outcome_of_run output n run ≡ halted_outcome next output n before Stuck
 stuck_comes next output n law before run rank call begins is ended free stuck below asked =
     stuck_behind next output n law before begins.0 run rank call begins.1 is ended free stuck below asked
 
@@ -167,12 +168,12 @@ stopped_again : (next : Next) (n : ℕ) (now : List Event) (event : Event) (halt
 stopped_again next n now event halt h step =
     let F : Option Halt → Type 0 = λ o. IsAllowedBy
     (or_else o (if is_full now then Some Limit else halt_at n now event.rank (view_of now event.rank) event.call))
-    (IsStuck next n now) n now event.rank (view_of now event.rank) event.call event.reply in
+    (IsStuck next n now) (moment_at n now event.rank) event.call event.reply in
     subst F h step.reply
 
 pub halted-append : (xs ys : List Event) → halted (xs ++ ys) ≡ or_else (halted xs) (halted ys)
 halted-append [] ys = refl
-halted-append (x ∷ xs) ys = rw (halted-append xs ys) (or_else-more (halt_in x.reply) (halted xs) (halted ys))
+halted-append (x ∷ xs) ys = rw (halted-append xs ys) (or_else-more (halt_of_reply x.reply) (halted xs) (halted ys))
   where
     or_else-more : (a b c : Option Halt) → or_else a (or_else b c) ≡ or_else (or_else a b) c
     or_else-more None b c = refl

@@ -9,10 +9,11 @@ use Rattle.run_model.specs.Views.{Next}
 use Rattle.run_model.proofs.Along.{Along-snoc}
 use Rattle.picked_runs.specs.declared.turn.Turn.{Turn}
 use Rattle.picked_runs.specs.Numbering.{AreNumberedInOrder}
-use Rattle.run_states.specs.Moves.{IsMet}
-use Rattle.run_states.specs.Outcomes.{IsPatientEvent, IsProbeKept, Output}
+use Rattle.srr_entry.specs.Outputs.{Output}
+use Rattle.run_states.specs.Moves.{IsVisited}
+use Rattle.run_states.specs.Outcomes.{IsPatientEvent, IsProbeKept}
 use Rattle.explore.specs.declared.met.Met.{Met}
-use Rattle.explore.specs.Searching.{IsState, IsStep, IsStepFollowed, IsUnderWay, WentOn, histories}
+use Rattle.explore.specs.Searching.{IsState, IsSearchStep, IsStepFollowed, IsUnderWay, WentOn, histories}
 
 pub record AreSame {E : Type 0} (xs ys : List E) (x y : E) : Type 0 where
   pub fronts : xs ≡ ys
@@ -45,9 +46,9 @@ followed_vain next n polls met before event events whole not polled other last s
     let F : List Event → Event → Type 0 = λ l e. IsPatientEvent polls l e in
     inr (polled, λ patient. not (subst (λ l. F l event) (sym s.fronts) (subst (λ e. F other e) (sym s.lasts) patient)))
 
-pub followed_met : (next : Next) (n polls : ℕ) (met : Met) (events : List Event) → IsMet n (histories next n met.states) events → IsStepFollowed next n polls met events
+pub followed_met : (next : Next) (n polls : ℕ) (met : Met) (events : List Event) → IsVisited n (histories next n met.states) events → IsStepFollowed next n polls met events
 followed_met next n polls met events there other last same kept =
-    let F : List Event → Type 0 = λ l. IsMet n (histories next n met.states) l in
+    let F : List Event → Type 0 = λ l. IsVisited n (histories next n met.states) l in
     inl (subst F same there)
 
 -- a run without events has no last one
@@ -75,9 +76,11 @@ vain_went next output n root met way =
     }
 
 -- an event that keeps its probe makes a state
-pub step_state : (next : Next) (n : ℕ) (root : List Event) (turns : List Turn) (before : List Event) (event : Event) (events : List Event)
-    → IsStep next n root turns before event events → IsProbeKept before event → IsState next n root turns
-step_state next n root turns before event events step kept =
+pub step_state : (next : Next) (n : ℕ) (root : List Event) (turns : List Turn) (events : List Event)
+    → (step : IsSearchStep next n root turns events) → IsProbeKept step.before step.event → IsState next n root turns
+step_state next n root turns events step kept =
+    let before : List Event = step.before in
+    let event : Event = step.event in
     let K : List Event → Type 0 = λ l. IsProbeKept l event in
     let R : List Event → Type 0 = λ l. IsRun next n l in
     let N : List Event → Type 0 = λ l. AreNumberedInOrder n l in
@@ -96,9 +99,9 @@ step_state next n root turns before event events step kept =
     }
 
 -- the same, of what stands for the events in code
-pub step_kept : (next : Next) (n : ℕ) (root : List Event) (turns : List Turn) (before other : List Event) (event last : Event) (events : List Event)
-    → IsStep next n root turns before event events → events ≡ other ++ last ∷ [] → IsProbeKept other last → IsState next n root turns
-step_kept next n root turns before other event last events step whole kept =
-    let s = snoc_same other before last event (sym whole ∙ step.whole) in
+pub step_kept : (next : Next) (n : ℕ) (root : List Event) (turns : List Turn) (other : List Event) (last : Event) (events : List Event)
+    → IsSearchStep next n root turns events → events ≡ other ++ last ∷ [] → IsProbeKept other last → IsState next n root turns
+step_kept next n root turns other last events step whole kept =
+    let s = snoc_same other step.before last step.event (sym whole ∙ step.whole) in
     let F : List Event → Event → Type 0 = λ l e. IsProbeKept l e in
-    step_state next n root turns before event events step (subst (λ l. F l event) s.fronts (subst (λ e. F other e) s.lasts kept))
+    step_state next n root turns events step (subst (λ l. F l step.event) s.fronts (subst (λ e. F other e) s.lasts kept))

@@ -11,10 +11,10 @@ use Rattle.mpi_call.specs.declared.reply.Item.{Item}
 use Rattle.mpi_call.specs.declared.reply.Reply.{Reply}
 use Rattle.mpi_call.specs.declared.reply.Reply.TheVariants.{Done, NotYet, Peeked, Stopped, Took}
 use Rattle.run_model.specs.declared.event.Event.{Event}
-use Rattle.run_model.specs.Allowed.{IsAllowed, IsAllowedBy, IsAnswer, IsHeld, IsPeekAnswer, IsStuck, IsTakeAnswer, first_long, flags_of, has_open, holds, taken_reply}
+use Rattle.run_model.specs.Allowed.{IsAllowed, IsAllowedBy, IsAnswer, IsHeld, IsPeekAnswer, IsStuck, IsTakeAnswer, first_long, flags_of, has_open, mode_holds, probe_of, taken_reply}
 use Rattle.run_model.specs.Due.{bad_request, due, halt_at, halted, is_full, is_mismatched}
 use Rattle.run_model.specs.Shape.{is_test}
-use Rattle.run_model.specs.Views.{Next, View, view_of}
+use Rattle.run_model.specs.Views.{Next, View, moment_of, view_of}
 use Rattle.run_model.proofs.Views.{option_cases, test_cases}
 
 held_gives : (test : Bool) (stuck : Type 0) (reply : Reply) → IsHeld test stuck reply → reply ≡ Stopped Stuck → stuck
@@ -26,12 +26,12 @@ not_taken None items me reply is h = (let no : Took items ≡ Stopped Stuck = sy
 not_taken (Some k) items me reply is h = (let no : Stopped (Truncated me k) ≡ Stopped Stuck = sym is ∙ h in cc)
 
 take_gives : (condition : Bool) (stuck : Type 0) (n : ℕ) (before : List Event) (me : ℕ) (own : View) (starts : List ℕ) (mode : TakeMode) (reply : Reply)
-    → IsTakeAnswer condition stuck n before me own starts mode reply → reply ≡ Stopped Stuck → stuck
+    → IsTakeAnswer condition stuck (moment_of n before me own) starts mode reply → reply ≡ Stopped Stuck → stuck
 take_gives true stuck n before me own starts mode reply is h = absurd (not_taken (first_long own starts is.items) is.items me reply is.reply_is h)
 take_gives false stuck n before me own starts mode reply is h = held_gives (is_test mode) stuck reply is h
 
 peek_gives : (found : Bool) (stuck : Type 0) (before : List Event) (me comm : ℕ) (source : Source) (tag : Tag) (wait : Bool) (reply : Reply)
-    → IsPeekAnswer found stuck before me comm source tag wait reply → reply ≡ Stopped Stuck → stuck
+    → IsPeekAnswer found stuck before (probe_of me comm source tag) wait reply → reply ≡ Stopped Stuck → stuck
 peek_gives true stuck before me comm source tag wait reply is h = (let no : Peeked is.send.0 is.send.1 is.t (length is.ints) ≡ Stopped Stuck = sym is.reply_is ∙ h in absurd (cc))
 peek_gives false stuck before me comm source tag wait reply is h = held_gives (not wait) stuck reply is h
 
@@ -39,8 +39,8 @@ done_gives : (stuck : Type 0) (reply : Reply) → reply ≡ Done → reply ≡ S
 done_gives stuck reply is h = (let no : Done ≡ Stopped Stuck = sym is ∙ h in absurd (cc))
 
 answer_gives : (stuck : Type 0) (n : ℕ) (before : List Event) (me : ℕ) (own : View) (call : Call) (reply : Reply)
-    → IsAnswer stuck n before me own call reply → reply ≡ Stopped Stuck → stuck
-answer_gives stuck n before me own (Take starts mode) reply is h = take_gives (holds mode (flags_of n before me own starts)) stuck n before me own starts mode reply is h
+    → IsAnswer stuck (moment_of n before me own) call reply → reply ≡ Stopped Stuck → stuck
+answer_gives stuck n before me own (Take starts mode) reply is h = take_gives (mode_holds mode (flags_of (moment_of n before me own) starts)) stuck n before me own starts mode reply is h
 answer_gives stuck n before me own (Peek comm source tag wait) reply is h = peek_gives (has_open n before me comm source tag) stuck before me comm source tag wait reply is h
 answer_gives stuck n before me own (Send comm dest tag ints sync) reply is h = done_gives stuck reply is h
 answer_gives stuck n before me own (Post comm source tag room) reply is h = done_gives stuck reply is h
@@ -76,7 +76,7 @@ pub stuck_then : (next : Next) (n : ℕ) (before : List Event) (me : ℕ) (call 
     → IsAllowed next n before me call reply → reply ≡ Stopped Stuck → IsStuck next n before
 stuck_then next n before me call reply none is h =
     let own : View = view_of before me in
-    let F : Option Halt → Type 0 = λ x. IsAllowedBy x (IsStuck next n before) n before me own call reply in
+    let F : Option Halt → Type 0 = λ x. IsAllowedBy x (IsStuck next n before) (moment_of n before me own) call reply in
     elim (option_cases (due n before me own call)) [
       | inl some ↦ (
           let stopped : reply ≡ Stopped some.0 = subst F some.1 is in

@@ -17,11 +17,11 @@ use Rattle.run_model.proofs.MemberLists.{AreMembers-world}
 use Rattle.run_model.proofs.RunLaws.{Kept, Lawful, kept_run}
 use Rattle.run_model.proofs.Views.{option_cases}
 use Rattle.picked_runs.specs.declared.turn.Turn.{Turn}
-use Rattle.srr_entry.specs.Outputs.{printed_of}
-use Rattle.srr_record.specs.Recordings.{IsRecording}
+use Rattle.srr_entry.specs.Outputs.{Output, printed_of}
+use Rattle.srr_record.specs.Recordings.{IsRecording, recording_with}
 use Rattle.srr_record.specs.declared.recording.Recording.{Recording}
-use Rattle.run_states.specs.Outcomes.{Outcome, Output, ending_told, outcome_of, ranks_told}
-use Rattle.explore.specs.Courses.{ComesTo, outcome_told}
+use Rattle.run_states.specs.Outcomes.{RunOutcome, reported_ending, outcome_of_run, reported_ranks}
+use Rattle.explore.specs.Courses.{ComesTo, reported_outcome}
 
 -- 1. the ranks that are told are ranks of the run
 
@@ -42,7 +42,7 @@ named_below : (next : Next) (n : ℕ) (run : List Event) (halt : Halt) (rank : �
 named_below next n run halt rank kept h named = one_below n rank (stopped_below next n run rank kept (kept.halts.each halt rank h named))
 
 told_below : (next : Next) (n : ℕ) (run : List Event) (halt : Halt) → 0 < n → Kept next n run → halted run ≡ Some halt
-    → are_below n (ranks_told n (Halted halt)) ≡ true
+    → are_below n (reported_ranks n (Halted halt)) ≡ true
 told_below next n run Stuck some kept h = (AreMembers-world n 0 some).below
 told_below next n run (Aborted rank code) some kept h = named_below next n run (Aborted rank code) rank kept h (eq-eqb rank rank refl)
 told_below next n run (Trapped rank fault) some kept h = named_below next n run (Trapped rank fault) rank kept h (eq-eqb rank rank refl)
@@ -51,11 +51,11 @@ told_below next n run (BadRequest rank start) some kept h = named_below next n r
 told_below next n run (Mismatched rank) some kept h = refl
 told_below next n run Limit some kept h = refl
 
-all_below : (next : Next) (n : ℕ) (run : List Event) → 0 < n → Kept next n run → are_below n (ranks_told n (ending_of run)) ≡ true
+all_below : (next : Next) (n : ℕ) (run : List Event) → 0 < n → Kept next n run → are_below n (reported_ranks n (ending_of run)) ≡ true
 all_below next n run some kept =
     elim (option_cases (halted run)) [
-      | inl halt ↦ ap (λ o. are_below n (ranks_told n (ending_by o))) halt.1 ∙ told_below next n run halt.0 some kept halt.1
-      | inr none ↦ ap (λ o. are_below n (ranks_told n (ending_by o))) none ∙ (AreMembers-world n 0 some).below
+      | inl halt ↦ ap (λ o. are_below n (reported_ranks n (ending_by o))) halt.1 ∙ told_below next n run halt.0 some kept halt.1
+      | inr none ↦ ap (λ o. are_below n (reported_ranks n (ending_by o))) none ∙ (AreMembers-world n 0 some).below
     ]
 
 -- 2. what each printed
@@ -80,26 +80,26 @@ printed_same f n (rank ∷ ranks) below =
     let one : List ℕ → ℕ × List ℕ = λ printed. (rank, printed) in
     ap (λ p. one p ∷ map (one_told (λ r. slice_index_or (map f (world n 0)) r [])) ranks) here ∙ ap (λ l. one (f rank) ∷ l) (printed_same f n ranks parts.1)
 
-abbrev outcome_with : Ending → List (ℕ × List ℕ) → Outcome
-outcome_with ending printed = record { ending = ending_told ending; printed = printed }
+abbrev outcome_with : Ending → List (ℕ × List ℕ) → RunOutcome
+outcome_with ending printed = record { ending = reported_ending ending; printed = printed }
 
 pub told_is : (next : Next) (output : Output) (n : ℕ) (run : List Event) → Lawful next → IsRun next n run
-    → outcome_told n (ending_of run) (map (printed_of output n run) (world n 0)) ≡ outcome_of output n run
+    → reported_outcome n (ending_of run) (map (printed_of output n run) (world n 0)) ≡ outcome_of_run output n run
 told_is next output n run lawful is =
-    let same = printed_same (printed_of output n run) n (ranks_told n (ending_of run)) (all_below next n run is.some (kept_run next n run lawful is)) in
+    let same = printed_same (printed_of output n run) n (reported_ranks n (ending_of run)) (all_below next n run is.some (kept_run next n run lawful is)) in
     ap (outcome_with (ending_of run)) same
 
 -- 3. what a recording comes to
 
-pub comes_to : (next : Next) (output : Output) (n planned : ℕ) (text : List ℕ) (groups : List (List ℕ)) (turns : List Turn) (recording : Recording) (outcome : Outcome) → Lawful next
-    → planned ≡ n → IsRecording next output planned text groups turns recording → outcome ≡ outcome_told n recording.ending recording.outputs
+pub comes_to : (next : Next) (output : Output) (n planned : ℕ) (text : List ℕ) (groups : List (List ℕ)) (turns : List Turn) (recording : Recording) (outcome : RunOutcome) → Lawful next
+    → planned ≡ n → IsRecording next output planned (recording_with text groups turns) recording → outcome ≡ reported_outcome n recording.ending recording.outputs
     → ComesTo next output n turns outcome
 comes_to next output n planned text groups turns recording outcome lawful many is said =
-    let F : ℕ → Type 0 = λ m. IsRecording next output m text groups turns recording in
-    let here : IsRecording next output n text groups turns recording = subst F many is in
+    let F : ℕ → Type 0 = λ m. IsRecording next output m (recording_with text groups turns) recording in
+    let here : IsRecording next output n (recording_with text groups turns) recording = subst F many is in
     let run : List Event = recording.history.events in
-    let told : outcome ≡ outcome_told n (ending_of run) (map (printed_of output n run) (world n 0)) =
-    said ∙ (ap (λ e. outcome_told n e recording.outputs) here.recorded.ending ∙ ap (outcome_told n (ending_of run)) here.recorded.outputs) in
+    let told : outcome ≡ reported_outcome n (ending_of run) (map (printed_of output n run) (world n 0)) =
+    said ∙ (ap (λ e. reported_outcome n e recording.outputs) here.recorded.ending ∙ ap (reported_outcome n (ending_of run)) here.recorded.outputs) in
     record {
       run = run;
       picks = recording.picks.written;

@@ -5,11 +5,12 @@ use Rattle.run_model.specs.declared.event.Event.{Event}
 use Rattle.run_model.specs.Lists.{IsPrefixOf}
 use Rattle.run_model.specs.Views.{Next}
 use Rattle.picked_runs.specs.declared.turn.Turn.{Turn}
-use Rattle.run_states.specs.Moves.{IsMet}
-use Rattle.run_states.specs.Outcomes.{Output, Outcome, halted_outcome, outcome_of}
-use Rattle.explore.specs.declared.found.Found.{Found}
-use Rattle.explore.specs.Explored.{IsListed, made_by}
-use Rattle.explore.specs.Searching.{Grows, IsFollowed, IsLookedAt, histories}
+use Rattle.srr_entry.specs.Outputs.{Output}
+use Rattle.run_states.specs.Moves.{IsVisited}
+use Rattle.run_states.specs.Outcomes.{RunOutcome, halted_outcome, outcome_of_run}
+use Rattle.explore.specs.declared.found.FoundOutcome.{FoundOutcome}
+use Rattle.explore.specs.Explored.{IsListed, events_of_turns}
+use Rattle.explore.specs.Searching.{StaysMet, IsFollowed, IsLookedAt, histories, question_of, seen_of}
 
 -- 1. lists that grow
 
@@ -32,18 +33,18 @@ map_append f (x ∷ xs) ys = ap (λ l. f x ∷ l) (map_append f xs ys)
 
 histories_longer : (next : Next) (n : ℕ) (states states' : List (List Turn)) → IsPrefixOf states states' → IsPrefixOf (histories next n states) (histories next n states')
 histories_longer next n states states' longer =
-    (map (made_by next n) longer.0, sym (map_append (made_by next n) states longer.0) ∙ ap (map (made_by next n)) longer.1)
+    (map (events_of_turns next n) longer.0, sym (map_append (events_of_turns next n) states longer.0) ∙ ap (map (events_of_turns next n)) longer.1)
 
 pub met_longer : (next : Next) (n : ℕ) (states states' : List (List Turn)) (events : List Event) → IsPrefixOf states states'
-    → IsMet n (histories next n states) events → IsMet n (histories next n states') events
+    → IsVisited n (histories next n states) events → IsVisited n (histories next n states') events
 met_longer next n states states' events longer met =
     (met.0, in_longer met.0 (histories next n states) (histories next n states') (histories_longer next n states states' longer) met.1, met.2)
 
-pub listed_longer : (listed listed' : List Found) (outcome : Outcome) → IsPrefixOf listed listed' → IsListed listed outcome → IsListed listed' outcome
+pub listed_longer : (listed listed' : List FoundOutcome) (outcome : RunOutcome) → IsPrefixOf listed listed' → IsListed listed outcome → IsListed listed' outcome
 listed_longer listed listed' outcome longer there = (there.0, in_longer there.0 listed listed' longer there.1, there.2)
 
-pub followed_longer : (next : Next) (n polls : ℕ) (states states' : List (List Turn)) (listed listed' : List Found) (polled polled' : Bool) (before : List Event) (event : Event)
-    → Grows states states' listed listed' polled polled' → IsFollowed next n polls states polled before event → IsFollowed next n polls states' polled' before event
+pub followed_longer : (next : Next) (n polls : ℕ) (states states' : List (List Turn)) (listed listed' : List FoundOutcome) (polled polled' : Bool) (before : List Event) (event : Event)
+    → StaysMet states states' listed listed' polled polled' → IsFollowed next n polls (seen_of states listed polled) before event → IsFollowed next n polls (seen_of states' listed' polled') before event
 followed_longer next n polls states states' listed listed' polled polled' before event grows followed =
     elim followed [
       | inl met ↦ inl (met_longer next n states states' (before ++ event ∷ []) grows.states_stay met)
@@ -51,17 +52,17 @@ followed_longer next n polls states states' listed listed' polled polled' before
     ]
 
 -- what was looked at stays looked at
-pub looked_longer : (next : Next) (output : Output) (n polls : ℕ) (states states' : List (List Turn)) (listed listed' : List Found) (polled polled' : Bool) (before : List Event)
-    → Grows states states' listed listed' polled polled' → IsLookedAt next output n polls states listed polled before
-    → IsLookedAt next output n polls states' listed' polled' before
+pub looked_longer : (next : Next) (output : Output) (n polls : ℕ) (states states' : List (List Turn)) (listed listed' : List FoundOutcome) (polled polled' : Bool) (before : List Event)
+    → StaysMet states states' listed listed' polled polled' → IsLookedAt (question_of next output n polls) (seen_of states listed polled) before
+    → IsLookedAt (question_of next output n polls) (seen_of states' listed' polled') before
 looked_longer next output n polls states states' listed listed' polled polled' before grows looked =
     record {
       moves = λ rank call pick move kept. followed_longer next n polls states states' listed listed' polled polled' before _ grows (looked.moves rank call pick move kept);
       halts = λ rank call pick halt halting. listed_longer listed listed' (halted_outcome next output n before halt) grows.listed_stay (looked.halts rank call pick halt halting);
-      ends = λ ended. listed_longer listed listed' (outcome_of output n before) grows.listed_stay (looked.ends ended);
+      ends = λ ended. listed_longer listed listed' (outcome_of_run output n before) grows.listed_stay (looked.ends ended);
     }
 
-pub grows_not : (states : List (List Turn)) (listed : List Found) (polled : Bool) → Grows states states listed listed polled polled
+pub grows_not : (states : List (List Turn)) (listed : List FoundOutcome) (polled : Bool) → StaysMet states states listed listed polled polled
 grows_not states listed polled =
     record { states_stay = ([], append-nil states); listed_stay = ([], append-nil listed); polled_stays = λ h. h }
 
@@ -69,8 +70,8 @@ longer_trans : {A : Type 0} (xs ys zs : List A) → IsPrefixOf xs ys → IsPrefi
 longer_trans {A} xs ys zs one two =
     (one.0 ++ two.0, sym (append_assoc xs one.0 two.0) ∙ (ap (λ (l : List A). l ++ two.0) one.1 ∙ two.1))
 
-pub grows_on : (one two three : List (List Turn)) (found more all : List Found) (p q r : Bool) → Grows one two found more p q → Grows two three more all q r
-    → Grows one three found all p r
+pub grows_on : (one two three : List (List Turn)) (found more all : List FoundOutcome) (p q r : Bool) → StaysMet one two found more p q → StaysMet two three more all q r
+    → StaysMet one three found all p r
 grows_on one two three found more all p q r a b =
     record {
       states_stay = longer_trans one two three a.states_stay b.states_stay;

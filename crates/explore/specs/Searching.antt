@@ -7,68 +7,94 @@ use Rattle.mpi_call.specs.declared.reply.Reply.TheVariants.{Stopped}
 use Rattle.mpi_call.specs.Lists.{IsIn}
 use Rattle.run_model.specs.declared.event.Event.{Event}
 use Rattle.run_model.specs.Allowed.{IsStuck, can_go}
-use Rattle.run_model.specs.Due.{halt_in, halted}
+use Rattle.run_model.specs.Due.{halt_of_reply, halted}
 use Rattle.run_model.specs.Lists.{Along, IsPrefixOf}
 use Rattle.run_model.specs.Run.{IsRun}
-use Rattle.run_model.specs.Serial.{call_after, goes}
-use Rattle.run_model.specs.Views.{Next, view_of}
+use Rattle.run_model.specs.Serial.{call_after, next_can_go}
+use Rattle.run_model.specs.Views.{Next, moment_at, view_of}
 use Rattle.picked_runs.specs.declared.turn.Pick.{Pick}
 use Rattle.picked_runs.specs.declared.turn.Pick.TheVariants.{First, Sender, Index}
 use Rattle.picked_runs.specs.declared.turn.Turn.{Turn}
 use Rattle.picked_runs.specs.Numbering.{AreNumberedInOrder}
 use Rattle.picked_runs.specs.Picks.{has_pick, picked_event, picked_reply}
 use Rattle.picked_runs.specs.Turns.{IsPickOf}
-use Rattle.run_states.specs.Codes.{code_of}
-use Rattle.run_states.specs.Keys.{key_of}
-use Rattle.run_states.specs.Moves.{IsHalting, IsMet, IsMove}
-use Rattle.run_states.specs.Outcomes.{IsPatientEvent, IsProbeKept, Outcome, Output, halted_outcome, outcome_of}
-use Rattle.explore.specs.declared.found.Found.{Found}
+use Rattle.srr_entry.specs.Outputs.{Output}
+use Rattle.run_states.specs.Codes.{key_code}
+use Rattle.run_states.specs.Keys.{state_key}
+use Rattle.run_states.specs.Moves.{IsHalting, IsVisited, IsMove}
+use Rattle.run_states.specs.Outcomes.{IsPatientEvent, IsProbeKept, RunOutcome, halted_outcome, outcome_of_run}
+use Rattle.explore.specs.declared.found.FoundOutcome.{FoundOutcome}
 use Rattle.explore.specs.declared.met.Met.{Met}
 use Rattle.explore.specs.Courses.{ComesTo, IsAnswered}
-use Rattle.explore.specs.Explored.{AreApart, IsFound, IsListed, made_by}
+use Rattle.explore.specs.Explored.{OutcomesDiffer, IsFoundOutcome, IsListed, events_of_turns}
 
 -- the histories of some states, each of which is kept as the turns that make it
 abbrev pub histories : Next → ℕ → List (List Turn) → List (List Event)
-histories next n states = map (made_by next n) states
+histories next n states = map (events_of_turns next n) states
 
 -- the code of a state's key
 abbrev pub code_at : Next → ℕ → List Turn → List ℤ
-code_at next n turns = code_of (key_of n (made_by next n turns))
+code_at next n turns = key_code (state_key n (events_of_turns next n turns))
+
+-- what a search is to answer: what the runs of a program on so many ranks come to, in which a rank looks in vain at most `polls` times in a row
+pub record Question : Type 0 where
+  pub next : Next
+  pub output : Output
+  pub ranks : ℕ
+  pub polls : ℕ
+
+-- the question with these parts
+abbrev pub question_of : Next → Output → ℕ → ℕ → Question
+question_of next output n polls = record { next = next; output = output; ranks = n; polls = polls }
+
+-- how far a search is: the states that it met, what it found, and whether a rank was held back
+pub record Seen : Type 0 where
+  pub states : List (List Turn)
+  pub listed : List FoundOutcome
+  pub polled : Bool
+
+-- what was seen, of its parts
+abbrev pub seen_of : List (List Turn) → List FoundOutcome → Bool → Seen
+seen_of states listed polled = record { states = states; listed = listed; polled = polled }
+
+-- what a search has seen that has met this
+abbrev pub seen_by : Met → Seen
+seen_by met = seen_of met.states met.found met.polled
 
 -- where a move leads is met, or a rank was held back that is not patient
-abbrev pub IsFollowed : Next → ℕ → ℕ → List (List Turn) → Bool → List Event → Event → Type 0
-IsFollowed next n polls states polled before event =
-    IsMet n (histories next n states) (before ++ event ∷ []) ⊎ ((polled ≡ true) × (IsPatientEvent polls before event → ⊥))
+abbrev pub IsFollowed : Next → ℕ → ℕ → Seen → List Event → Event → Type 0
+IsFollowed next n polls seen before event =
+    IsVisited n (histories next n seen.states) (before ++ event ∷ []) ⊎ ((seen.polled ≡ true) × (IsPatientEvent polls before event → ⊥))
 
 -- a state was looked at: each move that keeps its probe was followed; what each halt comes to is listed, and what the state itself comes to
 -- where each rank has ended
-pub record IsLookedAt (next : Next) (output : Output) (n polls : ℕ) (states : List (List Turn)) (listed : List Found) (polled : Bool) (before : List Event) : Type 0 where
-  pub moves : (rank : ℕ) (call : Call) (pick : Pick) → IsMove next n before rank call pick → IsProbeKept before (picked_event n before rank call pick)
-      → IsFollowed next n polls states polled before (picked_event n before rank call pick)
-  pub halts : (rank : ℕ) (call : Call) (pick : Pick) (halt : Halt) → IsHalting next n before rank call pick halt
-      → IsListed listed (halted_outcome next output n before halt)
-  pub ends : ((rank : ℕ) → rank < n → call_after next n before rank ≡ None) → IsListed listed (outcome_of output n before)
+pub record IsLookedAt (question : Question) (seen : Seen) (before : List Event) : Type 0 where
+  pub moves : (rank : ℕ) (call : Call) (pick : Pick) → IsMove question.next question.ranks before rank call pick → IsProbeKept before (picked_event question.ranks before rank call pick)
+      → IsFollowed question.next question.ranks question.polls seen before (picked_event question.ranks before rank call pick)
+  pub halts : (rank : ℕ) (call : Call) (pick : Pick) (halt : Halt) → IsHalting question.next (moment_at question.ranks before rank) call pick halt
+      → IsListed seen.listed (halted_outcome question.next question.output question.ranks before halt)
+  pub ends : ((rank : ℕ) → rank < question.ranks → call_after question.next question.ranks before rank ≡ None) → IsListed seen.listed (outcome_of_run question.output question.ranks before)
 
 -- every state was looked at, and the root is met
-pub record IsSearched (next : Next) (output : Output) (n polls : ℕ) (root : List Event) (states : List (List Turn)) (listed : List Found) (polled : Bool) : Type 0 where
-  pub first : IsMet n (histories next n states) root
-  pub looked : (turns : List Turn) → IsIn turns states → IsLookedAt next output n polls states listed polled (made_by next n turns)
+pub record IsSearched (question : Question) (root : List Event) (seen : Seen) : Type 0 where
+  pub first : IsVisited question.ranks (histories question.next question.ranks seen.states) root
+  pub looked : (turns : List Turn) → IsIn turns seen.states → IsLookedAt question seen (events_of_turns question.next question.ranks turns)
 
 -- what is met stays met: states, outcomes, and that a rank was held back
-pub record Grows (states states' : List (List Turn)) (listed listed' : List Found) (polled polled' : Bool) : Type 0 where
+pub record StaysMet (states states' : List (List Turn)) (listed listed' : List FoundOutcome) (polled polled' : Bool) : Type 0 where
   pub states_stay : IsPrefixOf states states'
   pub listed_stay : IsPrefixOf listed listed'
   pub polled_stays : polled ≡ true → polled' ≡ true
 
 -- one turn was tried after a state, and was answered: its move was followed, or what its halt comes to is listed
-pub record IsTried (next : Next) (output : Output) (n polls : ℕ) (states : List (List Turn)) (listed : List Found) (polled : Bool) (before : List Event) (turn : Turn) : Type 0 where
+pub record IsTried (question : Question) (seen : Seen) (before : List Event) (turn : Turn) : Type 0 where
   pub call : Call
-  pub asked : call_after next n before turn.rank ≡ Some call
-  pub offered : has_pick n before turn.rank call turn.pick ≡ true
-  pub goes : turn.pick ≡ First → (can_go n before turn.rank (view_of before turn.rank) call ≡ true) ⊎ IsStuck next n before
-  pub moves : halt_in (picked_reply n before turn.rank call turn.pick) ≡ None → IsProbeKept before (picked_event n before turn.rank call turn.pick)
-      → IsFollowed next n polls states polled before (picked_event n before turn.rank call turn.pick)
-  pub halts : (halt : Halt) → picked_reply n before turn.rank call turn.pick ≡ Stopped halt → IsListed listed (halted_outcome next output n before halt)
+  pub asked : call_after question.next question.ranks before turn.rank ≡ Some call
+  pub offered : has_pick question.ranks before turn.rank call turn.pick ≡ true
+  pub goes : turn.pick ≡ First → (can_go question.ranks before turn.rank (view_of before turn.rank) call ≡ true) ⊎ IsStuck question.next question.ranks before
+  pub moves : halt_of_reply (picked_reply question.ranks before turn.rank call turn.pick) ≡ None → IsProbeKept before (picked_event question.ranks before turn.rank call turn.pick)
+      → IsFollowed question.next question.ranks question.polls seen before (picked_event question.ranks before turn.rank call turn.pick)
+  pub halts : (halt : Halt) → picked_reply question.ranks before turn.rank call turn.pick ≡ Stopped halt → IsListed seen.listed (halted_outcome question.next question.output question.ranks before halt)
 
 -- it was not answered: the rank has ended, or its pick is not there, or its call cannot go
 pub record IsUnanswered (next : Next) (n : ℕ) (before : List Event) (turn : Turn) : Type 0 where
@@ -76,15 +102,15 @@ pub record IsUnanswered (next : Next) (n : ℕ) (before : List Event) (turn : Tu
   pub held : (call : Call) → call_after next n before turn.rank ≡ Some call → turn.pick ≡ First → can_go n before turn.rank (view_of before turn.rank) call ≡ false
 
 -- the turns of a rank were tried that pick one of these; `made` tells whether one of them was answered
-pub record ArePicksTried (next : Next) (output : Output) (n polls : ℕ) (states : List (List Turn)) (listed : List Found) (polled : Bool) (before : List Event) (rank : ℕ) (IsOne : Pick → Type 0) (made : Bool) : Type 0 where
-  pub moves : (call : Call) (pick : Pick) → IsOne pick → IsMove next n before rank call pick → IsProbeKept before (picked_event n before rank call pick)
-      → IsFollowed next n polls states polled before (picked_event n before rank call pick)
-  pub halts : (call : Call) (pick : Pick) (halt : Halt) → IsOne pick → IsHalting next n before rank call pick halt
-      → (pick ≡ First → can_go n before rank (view_of before rank) call ≡ true) → IsListed listed (halted_outcome next output n before halt)
-  pub absent : made ≡ false → (call : Call) (pick : Pick) → IsOne pick → call_after next n before rank ≡ Some call → pick ≢ First → has_pick n before rank call pick ≡ false
-  pub held : made ≡ false → (call : Call) → IsOne First → call_after next n before rank ≡ Some call → can_go n before rank (view_of before rank) call ≡ false
-  pub some : made ≡ true → (call : Call) × (pick : Pick) × IsOne pick × (call_after next n before rank ≡ Some call) × (has_pick n before rank call pick ≡ true)
-  pub stuck : made ≡ true → IsStuck next n before → IsListed listed (halted_outcome next output n before Stuck)
+pub record ArePicksTried (question : Question) (seen : Seen) (before : List Event) (rank : ℕ) (IsOne : Pick → Type 0) (made : Bool) : Type 0 where
+  pub moves : (call : Call) (pick : Pick) → IsOne pick → IsMove question.next question.ranks before rank call pick → IsProbeKept before (picked_event question.ranks before rank call pick)
+      → IsFollowed question.next question.ranks question.polls seen before (picked_event question.ranks before rank call pick)
+  pub halts : (call : Call) (pick : Pick) (halt : Halt) → IsOne pick → IsHalting question.next (moment_at question.ranks before rank) call pick halt
+      → (pick ≡ First → can_go question.ranks before rank (view_of before rank) call ≡ true) → IsListed seen.listed (halted_outcome question.next question.output question.ranks before halt)
+  pub absent : made ≡ false → (call : Call) (pick : Pick) → IsOne pick → call_after question.next question.ranks before rank ≡ Some call → pick ≢ First → has_pick question.ranks before rank call pick ≡ false
+  pub held : made ≡ false → (call : Call) → IsOne First → call_after question.next question.ranks before rank ≡ Some call → can_go question.ranks before rank (view_of before rank) call ≡ false
+  pub some : made ≡ true → (call : Call) × (pick : Pick) × IsOne pick × (call_after question.next question.ranks before rank ≡ Some call) × (has_pick question.ranks before rank call pick ≡ true)
+  pub stuck : made ≡ true → IsStuck question.next question.ranks before → IsListed seen.listed (halted_outcome question.next question.output question.ranks before Stuck)
 
 -- senders and indices below a count
 abbrev pub IsSenderBelow : ℕ → Pick → Type 0
@@ -94,29 +120,29 @@ abbrev pub IsIndexBelow : ℕ → Pick → Type 0
 IsIndexBelow count pick = (index : ℕ) × (pick ≡ Index index) × (index < count)
 
 -- all turns of the ranks below a number were tried; `made` tells whether one was answered
-pub record AreRanksTried (next : Next) (output : Output) (n polls : ℕ) (states : List (List Turn)) (listed : List Found) (polled : Bool) (before : List Event) (below : ℕ) (made : Bool) : Type 0 where
-  pub moves : (rank : ℕ) (call : Call) (pick : Pick) → rank < below → IsMove next n before rank call pick → IsProbeKept before (picked_event n before rank call pick)
-      → IsFollowed next n polls states polled before (picked_event n before rank call pick)
-  pub halts : (rank : ℕ) (call : Call) (pick : Pick) (halt : Halt) → rank < below → IsHalting next n before rank call pick halt
-      → (pick ≡ First → can_go n before rank (view_of before rank) call ≡ true) → IsListed listed (halted_outcome next output n before halt)
-  pub idle : made ≡ false → (rank : ℕ) → rank < below → goes n before rank (call_after next n before rank) ≡ false
-  pub some : made ≡ true → (rank : ℕ) × (call : Call) × (rank < n) × (call_after next n before rank ≡ Some call)
-  pub stuck : made ≡ true → IsStuck next n before → IsListed listed (halted_outcome next output n before Stuck)
+pub record AreRanksTried (question : Question) (seen : Seen) (before : List Event) (below : ℕ) (made : Bool) : Type 0 where
+  pub moves : (rank : ℕ) (call : Call) (pick : Pick) → rank < below → IsMove question.next question.ranks before rank call pick → IsProbeKept before (picked_event question.ranks before rank call pick)
+      → IsFollowed question.next question.ranks question.polls seen before (picked_event question.ranks before rank call pick)
+  pub halts : (rank : ℕ) (call : Call) (pick : Pick) (halt : Halt) → rank < below → IsHalting question.next (moment_at question.ranks before rank) call pick halt
+      → (pick ≡ First → can_go question.ranks before rank (view_of before rank) call ≡ true) → IsListed seen.listed (halted_outcome question.next question.output question.ranks before halt)
+  pub idle : made ≡ false → (rank : ℕ) → rank < below → next_can_go question.ranks before rank (call_after question.next question.ranks before rank) ≡ false
+  pub some : made ≡ true → (rank : ℕ) × (call : Call) × (rank < question.ranks) × (call_after question.next question.ranks before rank ≡ Some call)
+  pub stuck : made ≡ true → IsStuck question.next question.ranks before → IsListed seen.listed (halted_outcome question.next question.output question.ranks before Stuck)
 
 -- turns of ranks that make a run with a recording machine's numbers, which goes on from the root and keeps its probes from there on
 pub record IsUnder (next : Next) (n : ℕ) (root : List Event) (turns : List Turn) : Type 0 where
   pub more : List Event
-  pub made : made_by next n turns ≡ root ++ more
+  pub made : events_of_turns next n turns ≡ root ++ more
   pub ranks : All (λ turn. turn.rank < n) turns
   pub picks : All (λ turn. IsPickOf n turn.pick) turns
-  pub run : IsRun next n (made_by next n turns)
-  pub numbered : AreNumberedInOrder n (made_by next n turns)
+  pub run : IsRun next n (events_of_turns next n turns)
+  pub numbered : AreNumberedInOrder n (events_of_turns next n turns)
   pub probes : Along IsProbeKept root more
 
 -- a state under a root: such turns, without a halt
 pub record IsState (next : Next) (n : ℕ) (root : List Event) (turns : List Turn) : Type 0 where
   pub under : IsUnder next n root turns
-  pub free : halted (made_by next n turns) ≡ None
+  pub free : halted (events_of_turns next n turns) ≡ None
 
 -- nothing but halts follows: no call can go, or there is a halt
 abbrev pub IsAtEnd : Next → ℕ → List Event → Type 0
@@ -126,24 +152,26 @@ IsAtEnd next n events = IsStuck next n events ⊎ ((halt : Halt) × (halted even
 pub record IsUnderWay (next : Next) (output : Output) (n : ℕ) (root : List Event) (met : Met) : Type 0 where
   pub are_states : (turns : List Turn) → IsIn turns met.states → IsState next n root turns
   pub coded : (code : List ℤ) → IsIn code met.codes → (turns : List Turn) × IsIn turns met.states × (code_at next n turns ≡ code)
-  pub found : (found : Found) → IsIn found met.found → IsFound next output n root found
-  pub apart : AreApart met.found
+  pub found : (found : FoundOutcome) → IsIn found met.found → IsFoundOutcome next output n root found
+  pub apart : OutcomesDiffer met.found
 
 -- a search went on: it is under way, and what it has met stays met
 pub record WentOn (next : Next) (output : Output) (n : ℕ) (root : List Event) (met met' : Met) : Type 0 where
   pub under_way : IsUnderWay next output n root met'
-  pub grows : Grows met.states met'.states met.found met'.found met.polled met'.polled
+  pub grows : StaysMet met.states met'.states met.found met'.found met.polled met'.polled
 
 -- what the recording by these turns comes to is listed
-pub record IsNoted (next : Next) (output : Output) (n : ℕ) (turns : List Turn) (listed : List Found) : Type 0 where
-  pub outcome : Outcome
+pub record IsOutcomeListed (next : Next) (output : Output) (n : ℕ) (turns : List Turn) (listed : List FoundOutcome) : Type 0 where
+  pub outcome : RunOutcome
   pub comes : ComesTo next output n turns outcome
   pub listed_is : IsListed listed outcome
 
 -- these events are those that a state's turns make, and one more, which is no halt
-pub record IsStep (next : Next) (n : ℕ) (root : List Event) (turns : List Turn) (before : List Event) (event : Event) (events : List Event) : Type 0 where
+pub record IsSearchStep (next : Next) (n : ℕ) (root : List Event) (turns : List Turn) (events : List Event) : Type 0 where
+  pub before : List Event
+  pub event : Event
   pub whole : events ≡ before ++ event ∷ []
-  pub made : made_by next n turns ≡ events
+  pub made : events_of_turns next n turns ≡ events
   pub more : List Event
   pub begins : before ≡ root ++ more
   pub probes : Along IsProbeKept root more
@@ -156,33 +184,33 @@ pub record IsStep (next : Next) (n : ℕ) (root : List Event) (turns : List Turn
 -- of events with one more behind these before, that one was followed
 abbrev pub IsStepFollowed : Next → ℕ → ℕ → Met → List Event → Type 0
 IsStepFollowed next n polls met events =
-    (before : List Event) (event : Event) → events ≡ before ++ event ∷ [] → IsProbeKept before event → IsFollowed next n polls met.states met.polled before event
+    (before : List Event) (event : Event) → events ≡ before ++ event ∷ [] → IsProbeKept before event → IsFollowed next n polls (seen_by met) before event
 
 -- a rank's turn was made: its next call was answered with what it picks
 pub record IsTurnMade (next : Next) (n : ℕ) (before after : List Event) (turn : Turn) : Type 0 where
   pub call : Call
   pub asked : call_after next n before turn.rank ≡ Some call
-  pub answered : IsAnswered next n before after turn.rank call turn.pick
+  pub answered : IsAnswered next n before after turn call
 
 -- any pick
 abbrev pub IsAnyPick : Pick → Type 0
 IsAnyPick pick = Unit {0}
 
 -- what was tried of a search that has met this: one turn, or all turns of a rank that pick one of these, or of the ranks below a number
-abbrev pub HasTried : Next → Output → ℕ → ℕ → Met → List Event → Turn → Type 0
-HasTried next output n polls met before turn = IsTried next output n polls met.states met.found met.polled before turn
+abbrev pub HasTried : Question → Met → List Event → Turn → Type 0
+HasTried question met before turn = IsTried question (seen_by met) before turn
 
-abbrev pub HasTriedPicks : Next → Output → ℕ → ℕ → Met → List Event → ℕ → (Pick → Type 0) → Bool → Type 0
-HasTriedPicks next output n polls met before rank IsOne made = ArePicksTried next output n polls met.states met.found met.polled before rank IsOne made
+abbrev pub HasTriedPicks : Question → Met → List Event → ℕ → (Pick → Type 0) → Bool → Type 0
+HasTriedPicks question met before rank IsOne made = ArePicksTried question (seen_by met) before rank IsOne made
 
-abbrev pub HasTriedRanks : Next → Output → ℕ → ℕ → Met → List Event → ℕ → Bool → Type 0
-HasTriedRanks next output n polls met before below made = AreRanksTried next output n polls met.states met.found met.polled before below made
+abbrev pub HasTriedRanks : Question → Met → List Event → ℕ → Bool → Type 0
+HasTriedRanks question met before below made = AreRanksTried question (seen_by met) before below made
 
 -- a state was looked at
-abbrev pub HasLookedAt : Next → Output → ℕ → ℕ → Met → List Turn → Type 0
-HasLookedAt next output n polls met turns = IsLookedAt next output n polls met.states met.found met.polled (made_by next n turns)
+abbrev pub HasLookedAt : Question → Met → List Turn → Type 0
+HasLookedAt question met turns = IsLookedAt question (seen_by met) (events_of_turns question.next question.ranks turns)
 
 -- where a search begins: the root is met, or it is halted, and what it comes to is listed
 pub record HasBegun (next : Next) (output : Output) (n : ℕ) (under : List Turn) (met : Met) : Type 0 where
-  pub free : halted (made_by next n under) ≡ None → IsMet n (histories next n met.states) (made_by next n under)
-  pub ended : (halt : Halt) → halted (made_by next n under) ≡ Some halt → IsNoted next output n under met.found
+  pub free : halted (events_of_turns next n under) ≡ None → IsVisited n (histories next n met.states) (events_of_turns next n under)
+  pub ended : (halt : Halt) → halted (events_of_turns next n under) ≡ Some halt → IsOutcomeListed next output n under met.found

@@ -8,7 +8,7 @@ ghost use Rattle.picked_runs.specs.declared.turn.Pick.TheVariants.{First};
 ghost use Rattle.picked_runs.specs.Picked.{IsPicked};
 ghost use Rattle.explore.specs.Courses.{IsAhead, IsCourse, IsSetting};
 
-use crate::course::{Course, Setting, answer};
+use crate::course::{SearchCourse, Setting, answer};
 use mpi_call::call;
 use mpi_machine::machine::Machine;
 use picked_runs::picks::Picks;
@@ -73,7 +73,7 @@ fn make_events<P: Program>(
 /// Takes the machine back by its last event, which the ranks have not seen.
 pub fn take_back<'a, P: Program, R: RankRun<Of = P>, S>(
     setting: &Setting<'a, P, S>,
-    course: &mut Course<'a, P, R>,
+    course: &mut SearchCourse<'a, P, R>,
 ) -> Result<(), AllocError>
     requires planned { setting.now.ranks ≡ number_of_ranks setting.now.plan.now }
     requires ahead { (events : List Event) × (halted events ≡ None) × IsAhead R.standing setting.now.program.now setting.now.ranks events course.old.machine course.old.runs.items }

@@ -4,10 +4,10 @@ ghost use Rattle.group_plan.specs.Plans.{number_of_ranks};
 ghost use Rattle.mpi_call.specs.declared.reply.Reply.{Reply};
 ghost use Rattle.mpi_machine.specs.declared.answer.Answer.TheVariants.{Replied, Wait};
 ghost use Rattle.run_model.specs.Serial.{call_after};
-ghost use Rattle.explore.specs.Courses.{ComesTo, IsAnswered, IsCourse, IsHeldBack, IsSetting};
-ghost use Rattle.explore.specs.Explored.{made_by};
+ghost use Rattle.explore.specs.Courses.{ComesTo, IsAnswered, IsCourse, IsTurnHeldBack, IsSetting};
+ghost use Rattle.explore.specs.Explored.{events_of_turns};
 
-use crate::found::Found;
+use crate::found::FoundOutcome;
 use crate::ranks::StartRanks;
 use crate::telling::told;
 use group_plan::Plan;
@@ -36,7 +36,7 @@ pub struct Setting<'a, P: Program, S> {
 
 /// The limits of a search.
 #[derive(Clone, Copy)]
-pub struct Bounds {
+pub struct SearchLimits {
     /// How many states are looked at.
     pub most: u32,
     /// How many times in a row a rank may look in vain.
@@ -45,7 +45,7 @@ pub struct Bounds {
 
 /// A machine and the ranks beside it.
 #[derive(Drop)]
-pub struct Course<'a, P: Program, R: Drop> {
+pub struct SearchCourse<'a, P: Program, R: Drop> {
     pub machine: Machine<'a, P>,
     pub runs: Vec<R>,
 }
@@ -54,27 +54,27 @@ pub struct Course<'a, P: Program, R: Drop> {
 pub fn after_turns<'a, P: Program, R: RankRun<Of = P>, S: StartRanks<P, R>>(
     setting: &Setting<'a, P, S>,
     turns: &[Turn],
-) -> Result<Course<'a, P, R>, AllocError>
+) -> Result<SearchCourse<'a, P, R>, AllocError>
     requires setting { IsSetting (S.program setting.now.starter.now) setting.now.program.now (number_of_ranks setting.now.plan.now) setting.now.ranks }
     requires turns { All (λ turn. turn.rank < setting.now.ranks) turns.now }
-    ensures { IfOk result (λ course. IsCourse R.standing setting.now.program.now setting.now.ranks (made_by (P.next setting.now.program.now) setting.now.ranks turns.now) course.machine course.runs.items) }
+    ensures { IfOk result (λ course. IsCourse R.standing setting.now.program.now setting.now.ranks (events_of_turns (P.next setting.now.program.now) setting.now.ranks turns.now) course.machine course.runs.items) }
 {
     let ranks = setting.plan.n();
     let mut runs = setting.starter.start(setting.alloc, ranks)?;
     let mut machine = Machine::new(setting.alloc, setting.program, ranks)?;
     take_turns(&mut machine, runs.as_mut_slice(), turns)?;
-    Ok(Course { machine, runs })
+    Ok(SearchCourse { machine, runs })
 }
 
 /// Makes a course anew, by these turns.
 pub fn make_anew<'a, P: Program, R: RankRun<Of = P>, S: StartRanks<P, R>>(
     setting: &Setting<'a, P, S>,
-    course: &mut Course<'a, P, R>,
+    course: &mut SearchCourse<'a, P, R>,
     turns: &[Turn],
 ) -> Result<(), AllocError>
     requires setting { IsSetting (S.program setting.now.starter.now) setting.now.program.now (number_of_ranks setting.now.plan.now) setting.now.ranks }
     requires turns { All (λ turn. turn.rank < setting.now.ranks) turns.now }
-    ensures { OnOk result (IsCourse R.standing setting.now.program.now setting.now.ranks (made_by (P.next setting.now.program.now) setting.now.ranks turns.now) course.new.machine course.new.runs.items) }
+    ensures { OnOk result (IsCourse R.standing setting.now.program.now setting.now.ranks (events_of_turns (P.next setting.now.program.now) setting.now.ranks turns.now) course.new.machine course.new.runs.items) }
 {
     *course = after_turns(setting, turns)?;
     Ok(())
@@ -101,7 +101,7 @@ pub fn answer<P: Program>(
     requires next { call_after (P.next machine.old.program) machine.old.ranks machine.old.events rank ≡ Some call }
     ensures program { OnOk result (machine.new.program ≡ machine.old.program) }
     ensures ranks { OnOk result (machine.new.ranks ≡ machine.old.ranks) }
-    ensures answered { IfOk result (λ answered. MatchBool answered (IsAnswered (P.next machine.old.program) machine.old.ranks machine.old.events machine.new.events rank call pick) (IsHeldBack machine.old.ranks machine.old.events machine.new.events rank call pick)) }
+    ensures answered { IfOk result (λ answered. MatchBool answered (IsAnswered (P.next machine.old.program) machine.old.ranks machine.old.events machine.new.events (record { rank = rank; pick = pick }) call) (IsTurnHeldBack machine.old.ranks machine.old.events machine.new.events (record { rank = rank; pick = pick }) call)) }
 {
     match pick {
         Pick::First => Ok(is_replied(&machine.attempt(rank, call)?)),
@@ -114,7 +114,7 @@ pub fn answer<P: Program>(
 pub fn outcome_by<P: Program, R: RankRun<Of = P>, S: StartRanks<P, R>>(
     setting: &Setting<'_, P, S>,
     turns: Turns,
-) -> Result<Found, AllocError>
+) -> Result<FoundOutcome, AllocError>
     requires setting { IsSetting (S.program setting.now.starter.now) setting.now.program.now (number_of_ranks setting.now.plan.now) setting.now.ranks }
     requires turns { All (λ turn. turn.rank < setting.now.ranks) turns }
     ensures turns { IfOk result (λ found. found.turns ≡ turns) }
@@ -136,5 +136,5 @@ pub fn outcome_by<P: Program, R: RankRun<Of = P>, S: StartRanks<P, R>>(
         recording.ending,
         &recording.outputs,
     )?;
-    Ok(Found { turns, outcome })
+    Ok(FoundOutcome { turns, outcome })
 }

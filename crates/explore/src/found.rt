@@ -1,9 +1,10 @@
 //! What a search finds.
-ghost use Rattle.std.specs.Prelude.{◌≡◌, ◌++◌, ◌∷◌, [], OnErr, OnOk};
+ghost use Rattle.std.specs.Prelude.{◌≡◌, ◌++◌, ◌∷◌, [], OnOk};
 
+use listed::Listed;
 use picked_runs::turn::Turns;
 use run_model::ending::Ending;
-use std::alloc::{AllocError, AllocFailed, Global};
+use std::alloc::{AllocError, Global};
 use std::marker::Model;
 use wiz_base::bytes::Bytes;
 
@@ -15,9 +16,9 @@ pub struct Outcome {
 }
 
 impl Model for Outcome {
-    ghost use Rattle.run_states.specs.Outcomes.{Outcome};
+    ghost use Rattle.run_states.specs.Outcomes.{RunOutcome};
 
-    ghost Value = { Outcome };
+    ghost Value = { RunOutcome };
 
     ghost view = { λ s. record { ending = s.ending; printed = s.printed.items } };
 }
@@ -58,98 +59,19 @@ impl Outcome {
 
 /// An outcome, and the turns of a recording that comes to it.
 #[derive(Drop)]
-pub struct Found {
+pub struct FoundOutcome {
     pub turns: Turns,
     pub outcome: Outcome,
 }
 
-/// What was found, in order; contracts see a list.
-#[derive(Drop)]
-pub struct Listed {
-    values: Vec<Found>,
-}
-
-impl Model for Listed {
-    ghost use Rattle.std.specs.Prelude.{List};
-    ghost use Rattle.explore.specs.declared.found.Found.{Found};
-
-    ghost Value = { List Found };
-
-    ghost view = { λ s. s.values.items };
-}
-
-impl Listed {
-    /// Nothing.
-    pub fn new(alloc: Global) -> Self
-        ensures { result ≡ [] }
-    {
-        Listed {
-            values: Vec::new(alloc),
-        }
-    }
-
-    /// Adds one at the end.
-    pub fn push(&mut self, value: Found) -> Result<(), AllocFailed<Found>>
-        ensures ok { OnOk result (self.new ≡ self.old ++ value ∷ []) }
-        ensures err { OnErr result (self.new ≡ self.old) }
-    {
-        self.values.push(value)
-    }
-
-    /// All in order.
-    pub fn as_slice(&self) -> &[Found]
-        ensures { result.now ≡ self.now }
-    {
-        &self.values
-    }
-}
-
 /// States, each as the turns that make it; contracts see a list.
-#[derive(Drop)]
-pub struct States {
-    values: Vec<Turns>,
-}
-
-impl Model for States {
-    ghost use Rattle.std.specs.Prelude.{List};
-    ghost use Rattle.picked_runs.specs.declared.turn.Turn.{Turn};
-
-    ghost Value = { List (List Turn) };
-
-    ghost view = { λ s. s.values.items };
-}
-
-impl States {
-    /// None.
-    pub fn new(alloc: Global) -> Self
-        ensures { result ≡ [] }
-    {
-        States {
-            values: Vec::new(alloc),
-        }
-    }
-
-    /// Adds one at the end.
-    pub fn push(&mut self, value: Turns) -> Result<(), AllocFailed<Turns>>
-        ensures ok { OnOk result (self.new ≡ self.old ++ value ∷ []) }
-        ensures err { OnErr result (self.new ≡ self.old) }
-    {
-        self.values.push(value)
-    }
-
-    /// All in order.
-    pub fn as_slice(&self) -> &[Turns]
-        ensures { result.now ≡ self.now }
-    {
-        &self.values
-    }
-}
+pub type States = Listed<Turns>;
 
 /// What a search answers.
 #[derive(Drop)]
 pub struct Explored {
     /// The outcomes, in the order in which they were found.
-    pub found: Listed,
+    pub found: Listed<FoundOutcome>,
     /// How many states it met.
     pub states: usize,
     /// The states that it met and did not look at, where they are more than were asked for.

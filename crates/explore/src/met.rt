@@ -4,10 +4,11 @@ ghost use Rattle.mpi_call.specs.Lists.{IsIn};
 ghost use Rattle.explore.specs.Explored.{IsListed};
 ghost use Rattle.explore.specs.Meeting.{IsFoundAdded, IsStateAdded};
 
-use crate::found::{Found, Listed, States};
+use crate::found::{FoundOutcome, States};
 use indexmap::IndexSet;
+use listed::Listed;
 use picked_runs::turn::Turns;
-use run_states::code::Code;
+use run_states::code::StateCode;
 use std::alloc::{AllocError, Global};
 use std::marker::Model;
 use wiz_base::bytes::Bytes;
@@ -15,7 +16,7 @@ use wiz_base::bytes::Bytes;
 /// The codes of the keys of states, each once; contracts see a list.
 #[derive(Drop)]
 pub struct Codes {
-    values: IndexSet<Code>,
+    values: IndexSet<StateCode>,
 }
 
 impl Model for Codes {
@@ -37,7 +38,7 @@ impl Codes {
     }
 
     /// Adds a code, where it is not there yet: whether it is new.
-    pub fn insert(&mut self, code: Code) -> Result<bool, AllocError>
+    pub fn insert(&mut self, code: StateCode) -> Result<bool, AllocError>
         ensures { IfOk result (λ is_new. MatchBool is_new (self.new ≡ self.old ++ code.numbers.items ∷ []) ((self.new ≡ self.old) × IsIn code.numbers.items self.old)) }
     {
         let is_new = self.values.insert(code)?;
@@ -51,7 +52,7 @@ pub struct Met {
     pub states: States,
     /// The codes of the states' keys.
     pub codes: Codes,
-    pub found: Listed,
+    pub found: Listed<FoundOutcome>,
     pub polled: bool,
 }
 
@@ -69,7 +70,7 @@ impl Met {
     }
 
     /// Adds a state, where no state has this code yet.
-    pub fn add_state(&mut self, code: Code, turns: Turns) -> Result<(), AllocError>
+    pub fn add_state(&mut self, code: StateCode, turns: Turns) -> Result<(), AllocError>
         ensures { OnOk result (IsStateAdded self.old self.new code.numbers.items turns) }
     {
         let is_new = self.codes.insert(code)?;
@@ -80,7 +81,7 @@ impl Met {
     }
 
     /// Adds an outcome, where it is not listed yet.
-    pub fn add_found(&mut self, found: Found) -> Result<(), AllocError>
+    pub fn add_found(&mut self, found: FoundOutcome) -> Result<(), AllocError>
         ensures { OnOk result (IsFoundAdded self.old self.new found) }
     {
         if !is_listed(self.found.as_slice(), &found) {
@@ -91,7 +92,7 @@ impl Met {
 }
 
 /// Whether this outcome is listed.
-fn is_listed(listed: &[Found], found: &Found) -> bool
+fn is_listed(listed: &[FoundOutcome], found: &FoundOutcome) -> bool
     ensures { MatchBool result (IsListed listed.now found.now.outcome) (IsListed listed.now found.now.outcome → ⊥) }
 {
     let mut rest = listed;
@@ -105,7 +106,7 @@ fn is_listed(listed: &[Found], found: &Found) -> bool
 }
 
 /// Whether two come to the same.
-fn is_same(one: &Found, other: &Found) -> bool
+fn is_same(one: &FoundOutcome, other: &FoundOutcome) -> bool
     ensures { MatchBool result (one.now.outcome ≡ other.now.outcome) (one.now.outcome ≡ other.now.outcome → ⊥) }
 {
     one.outcome.ending() == other.outcome.ending()

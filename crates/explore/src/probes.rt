@@ -1,10 +1,10 @@
 //! Which moves a search follows: those that keep what a probe found, and those of patient ranks.
 ghost use Rattle.std.specs.Prelude.{◌≡◌, ◌<◌, ◌≤◌, ◌+◌, ◌^◌, ◌∷◌, [], None, Some, MatchBool, option_map};
-ghost use Rattle.run_states.specs.Futures.{mate_in};
+ghost use Rattle.run_states.specs.Futures.{mate_name};
 ghost use Rattle.mpi_call.specs.declared.reply.Reply.TheVariants.{Done};
 ghost use Rattle.run_model.specs.Views.{view_of};
 ghost use Rattle.run_states.specs.Outcomes.{IsPatientEvent, IsProbeKept, vain_after, vain_in};
-ghost use Rattle.explore.specs.Probes.{AsksSame, last_or};
+ghost use Rattle.explore.specs.inside.Probes.{AsksSame, last_or};
 
 use mpi_call::call::{Call, Source, Tag};
 use mpi_call::reply::Reply;
@@ -78,7 +78,7 @@ fn asks_same(call: &Call, probe: &Call) -> bool
 
 /// Whether the mate of an event is this start.
 fn is_mate(before: &[Event], mate: Option<u32>, rank: u8, start: u32) -> bool
-    ensures { MatchBool result (mate_in before.now mate ≡ Some (rank, start)) (mate_in before.now mate ≡ Some (rank, start) → ⊥) }
+    ensures { MatchBool result (mate_name before.now mate ≡ Some (rank, start)) (mate_name before.now mate ≡ Some (rank, start) → ⊥) }
 {
     match mate_in(before, mate) {
         Some(name) => name.0 == rank && name.1 == start as usize,

@@ -11,14 +11,14 @@ ghost use Rattle.picked_runs.specs.declared.turn.Pick.TheVariants.{First};
 ghost use Rattle.picked_runs.specs.declared.turn.Turn.{Turn};
 ghost use Rattle.explore.specs.declared.quiet.Look.TheVariants.{Followed};
 ghost use Rattle.run_model.specs.Program.{IsAfter};
-ghost use Rattle.explore.specs.Explored.{made_by};
-ghost use Rattle.explore.specs.RaceFlags.{races_of};
+ghost use Rattle.explore.specs.Explored.{events_of_turns};
+ghost use Rattle.explore.specs.inside.RaceFlags.{races_of};
 ghost use Rattle.explore.specs.QuietFirst.{ArePassed, AreReckonedBelow, HasLookedAtQuietly, HasMetQuietly, IsLastAnswered, IsReckonedWith, has_mismatch, is_hindered, is_mismatched_ending};
-ghost use Rattle.explore.specs.Searching.{IsState, IsUnderWay, WentOn};
+ghost use Rattle.explore.specs.Searching.{IsState, IsUnderWay, WentOn, question_of};
 
 use crate::ahead::{PassedStates, note_passed};
-use crate::course::{Bounds, Course, Setting, after_turns, make_anew};
-use crate::found::Found;
+use crate::course::{SearchCourse, SearchLimits, Setting, after_turns, make_anew};
+use crate::found::FoundOutcome;
 use crate::met::Met;
 use crate::probes::keeps_probe;
 use crate::races::{Race, Races};
@@ -97,12 +97,12 @@ fn is_last_answered(events: &[Event]) -> bool
 fn race_of_next<'a, P: Program, R: RankRun<Of = P>, S>(
     setting: &Setting<'a, P, S>,
     races: &Races,
-    course: &mut Course<'a, P, R>,
+    course: &mut SearchCourse<'a, P, R>,
     turns: &[Turn],
 ) -> Result<Option<Race>, AllocError>
-    requires course { IsCourse R.standing setting.now.program.now setting.now.ranks (made_by (P.next setting.now.program.now) setting.now.ranks turns.now) course.old.machine course.old.runs.items }
-    ensures course { OnOk result (IsCourse R.standing setting.now.program.now setting.now.ranks (made_by (P.next setting.now.program.now) setting.now.ranks turns.now) course.new.machine course.new.runs.items) }
-    ensures reckoned { IfOk result (λ race. race ≡ None → AreReckonedBelow (P.next setting.now.program.now) setting.now.ranks (races_of races.now) (made_by (P.next setting.now.program.now) setting.now.ranks turns.now) setting.now.ranks) }
+    requires course { IsCourse R.standing setting.now.program.now setting.now.ranks (events_of_turns (P.next setting.now.program.now) setting.now.ranks turns.now) course.old.machine course.old.runs.items }
+    ensures course { OnOk result (IsCourse R.standing setting.now.program.now setting.now.ranks (events_of_turns (P.next setting.now.program.now) setting.now.ranks turns.now) course.new.machine course.new.runs.items) }
+    ensures reckoned { IfOk result (λ race. race ≡ None → AreReckonedBelow (P.next setting.now.program.now) setting.now.ranks (races_of races.now) (events_of_turns (P.next setting.now.program.now) setting.now.ranks turns.now) setting.now.ranks) }
 {
     for rank in 0..setting.ranks {
         let next = call_of(&mut course.runs[rank as usize])?;
@@ -147,21 +147,21 @@ fn make<P: Program, R: RankRun<Of = P>>(
 /// Makes a rank's next call after a state, where it is quiet, and goes along with it: whether it was, and was followed.
 fn make_quiet<'a, P: Program, R: RankRun<Of = P>, S: StartRanks<P, R>>(
     setting: &Setting<'a, P, S>,
-    bounds: Bounds,
+    bounds: SearchLimits,
     races: &Races,
     met: &mut Met,
-    course: &mut Course<'a, P, R>,
+    course: &mut SearchCourse<'a, P, R>,
     turns: &[Turn],
     rank: u8,
 ) -> Result<bool, AllocError>
     requires setting { IsSetting (S.program setting.now.starter.now) setting.now.program.now (number_of_ranks setting.now.plan.now) setting.now.ranks }
-    requires state { IsState (P.next setting.now.program.now) setting.now.ranks (made_by (P.next setting.now.program.now) setting.now.ranks setting.now.under.now) turns.now }
-    requires met { IsUnderWay (P.next setting.now.program.now) (P.output setting.now.program.now) setting.now.ranks (made_by (P.next setting.now.program.now) setting.now.ranks setting.now.under.now) met.old }
-    requires course { IsCourse R.standing setting.now.program.now setting.now.ranks (made_by (P.next setting.now.program.now) setting.now.ranks turns.now) course.old.machine course.old.runs.items }
+    requires state { IsState (P.next setting.now.program.now) setting.now.ranks (events_of_turns (P.next setting.now.program.now) setting.now.ranks setting.now.under.now) turns.now }
+    requires met { IsUnderWay (P.next setting.now.program.now) (P.output setting.now.program.now) setting.now.ranks (events_of_turns (P.next setting.now.program.now) setting.now.ranks setting.now.under.now) met.old }
+    requires course { IsCourse R.standing setting.now.program.now setting.now.ranks (events_of_turns (P.next setting.now.program.now) setting.now.ranks turns.now) course.old.machine course.old.runs.items }
     requires rank { rank < setting.now.ranks }
-    ensures course { IfOk result (λ made. made ≡ false → IsCourse R.standing setting.now.program.now setting.now.ranks (made_by (P.next setting.now.program.now) setting.now.ranks turns.now) course.new.machine course.new.runs.items) }
-    ensures along { IfOk result (λ made. made ≡ true → IsCourse R.standing setting.now.program.now setting.now.ranks (made_by (P.next setting.now.program.now) setting.now.ranks (turns.now ++ (record { rank = rank; pick = First }) ∷ [])) course.new.machine course.new.runs.items) }
-    ensures went { OnOk result (WentOn (P.next setting.now.program.now) (P.output setting.now.program.now) setting.now.ranks (made_by (P.next setting.now.program.now) setting.now.ranks setting.now.under.now) met.old met.new) }
+    ensures course { IfOk result (λ made. made ≡ false → IsCourse R.standing setting.now.program.now setting.now.ranks (events_of_turns (P.next setting.now.program.now) setting.now.ranks turns.now) course.new.machine course.new.runs.items) }
+    ensures along { IfOk result (λ made. made ≡ true → IsCourse R.standing setting.now.program.now setting.now.ranks (events_of_turns (P.next setting.now.program.now) setting.now.ranks (turns.now ++ (record { rank = rank; pick = First }) ∷ [])) course.new.machine course.new.runs.items) }
+    ensures went { OnOk result (WentOn (P.next setting.now.program.now) (P.output setting.now.program.now) setting.now.ranks (events_of_turns (P.next setting.now.program.now) setting.now.ranks setting.now.under.now) met.old met.new) }
     ensures followed { IfOk result (λ made. made ≡ true → HasMetQuietly (P.next setting.now.program.now) setting.now.ranks (races_of races.now) met.new turns.now) }
 {
     if !make(
@@ -184,19 +184,19 @@ fn make_quiet<'a, P: Program, R: RankRun<Of = P>, S: StartRanks<P, R>>(
 /// Makes one quiet call after a state, where there is one, and goes along with it: the turn that was followed.
 fn follow_quiet<'a, P: Program, R: RankRun<Of = P>, S: StartRanks<P, R>>(
     setting: &Setting<'a, P, S>,
-    bounds: Bounds,
+    bounds: SearchLimits,
     races: &Races,
     met: &mut Met,
-    course: &mut Course<'a, P, R>,
+    course: &mut SearchCourse<'a, P, R>,
     turns: &[Turn],
 ) -> Result<Option<Turn>, AllocError>
     requires setting { IsSetting (S.program setting.now.starter.now) setting.now.program.now (number_of_ranks setting.now.plan.now) setting.now.ranks }
-    requires state { IsState (P.next setting.now.program.now) setting.now.ranks (made_by (P.next setting.now.program.now) setting.now.ranks setting.now.under.now) turns.now }
-    requires met { IsUnderWay (P.next setting.now.program.now) (P.output setting.now.program.now) setting.now.ranks (made_by (P.next setting.now.program.now) setting.now.ranks setting.now.under.now) met.old }
-    requires course { IsCourse R.standing setting.now.program.now setting.now.ranks (made_by (P.next setting.now.program.now) setting.now.ranks turns.now) course.old.machine course.old.runs.items }
-    ensures course { IfOk result (λ made. made ≡ None → IsCourse R.standing setting.now.program.now setting.now.ranks (made_by (P.next setting.now.program.now) setting.now.ranks turns.now) course.new.machine course.new.runs.items) }
-    ensures along { IfOk result (λ made. (turn : Turn) → made ≡ Some turn → IsCourse R.standing setting.now.program.now setting.now.ranks (made_by (P.next setting.now.program.now) setting.now.ranks (turns.now ++ turn ∷ [])) course.new.machine course.new.runs.items) }
-    ensures went { OnOk result (WentOn (P.next setting.now.program.now) (P.output setting.now.program.now) setting.now.ranks (made_by (P.next setting.now.program.now) setting.now.ranks setting.now.under.now) met.old met.new) }
+    requires state { IsState (P.next setting.now.program.now) setting.now.ranks (events_of_turns (P.next setting.now.program.now) setting.now.ranks setting.now.under.now) turns.now }
+    requires met { IsUnderWay (P.next setting.now.program.now) (P.output setting.now.program.now) setting.now.ranks (events_of_turns (P.next setting.now.program.now) setting.now.ranks setting.now.under.now) met.old }
+    requires course { IsCourse R.standing setting.now.program.now setting.now.ranks (events_of_turns (P.next setting.now.program.now) setting.now.ranks turns.now) course.old.machine course.old.runs.items }
+    ensures course { IfOk result (λ made. made ≡ None → IsCourse R.standing setting.now.program.now setting.now.ranks (events_of_turns (P.next setting.now.program.now) setting.now.ranks turns.now) course.new.machine course.new.runs.items) }
+    ensures along { IfOk result (λ made. (turn : Turn) → made ≡ Some turn → IsCourse R.standing setting.now.program.now setting.now.ranks (events_of_turns (P.next setting.now.program.now) setting.now.ranks (turns.now ++ turn ∷ [])) course.new.machine course.new.runs.items) }
+    ensures went { OnOk result (WentOn (P.next setting.now.program.now) (P.output setting.now.program.now) setting.now.ranks (events_of_turns (P.next setting.now.program.now) setting.now.ranks setting.now.under.now) met.old met.new) }
     ensures followed { IfOk result (λ made. (turn : Turn) → made ≡ Some turn → HasMetQuietly (P.next setting.now.program.now) setting.now.ranks (races_of races.now) met.new turns.now) }
 {
     let pick = Pick::First;
@@ -212,12 +212,12 @@ fn follow_quiet<'a, P: Program, R: RankRun<Of = P>, S: StartRanks<P, R>>(
 fn hindrance_at<'a, P: Program, R: RankRun<Of = P>, S>(
     setting: &Setting<'a, P, S>,
     races: &Races,
-    course: &mut Course<'a, P, R>,
+    course: &mut SearchCourse<'a, P, R>,
     turns: &[Turn],
 ) -> Result<Option<Hindrance>, AllocError>
-    requires course { IsCourse R.standing setting.now.program.now setting.now.ranks (made_by (P.next setting.now.program.now) setting.now.ranks turns.now) course.old.machine course.old.runs.items }
-    ensures course { OnOk result (IsCourse R.standing setting.now.program.now setting.now.ranks (made_by (P.next setting.now.program.now) setting.now.ranks turns.now) course.new.machine course.new.runs.items) }
-    ensures met { IfOk result (λ hindrance. hindrance ≡ None → IsReckonedWith (P.next setting.now.program.now) setting.now.ranks (races_of races.now) (made_by (P.next setting.now.program.now) setting.now.ranks turns.now)) }
+    requires course { IsCourse R.standing setting.now.program.now setting.now.ranks (events_of_turns (P.next setting.now.program.now) setting.now.ranks turns.now) course.old.machine course.old.runs.items }
+    ensures course { OnOk result (IsCourse R.standing setting.now.program.now setting.now.ranks (events_of_turns (P.next setting.now.program.now) setting.now.ranks turns.now) course.new.machine course.new.runs.items) }
+    ensures met { IfOk result (λ hindrance. hindrance ≡ None → IsReckonedWith (P.next setting.now.program.now) setting.now.ranks (races_of races.now) (events_of_turns (P.next setting.now.program.now) setting.now.ranks turns.now)) }
 {
     let events = course.machine.history().as_slice();
     if !is_far_below(events) {
@@ -235,19 +235,19 @@ fn hindrance_at<'a, P: Program, R: RankRun<Of = P>, S>(
 /// Looks at a state, which the course stands at: follows one quiet call, where there is one, and else tries all turns.
 fn look_from<'a, P: Program, R: RankRun<Of = P>, S: StartRanks<P, R>>(
     setting: &Setting<'a, P, S>,
-    bounds: Bounds,
+    bounds: SearchLimits,
     races: &Races,
     met: &mut Met,
-    course: &mut Course<'a, P, R>,
+    course: &mut SearchCourse<'a, P, R>,
     turns: &[Turn],
 ) -> Result<Look, AllocError>
     requires setting { IsSetting (S.program setting.now.starter.now) setting.now.program.now (number_of_ranks setting.now.plan.now) setting.now.ranks }
-    requires state { IsState (P.next setting.now.program.now) setting.now.ranks (made_by (P.next setting.now.program.now) setting.now.ranks setting.now.under.now) turns.now }
-    requires met { IsUnderWay (P.next setting.now.program.now) (P.output setting.now.program.now) setting.now.ranks (made_by (P.next setting.now.program.now) setting.now.ranks setting.now.under.now) met.old }
-    requires course { IsCourse R.standing setting.now.program.now setting.now.ranks (made_by (P.next setting.now.program.now) setting.now.ranks turns.now) course.old.machine course.old.runs.items }
-    ensures went { OnOk result (WentOn (P.next setting.now.program.now) (P.output setting.now.program.now) setting.now.ranks (made_by (P.next setting.now.program.now) setting.now.ranks setting.now.under.now) met.old met.new) }
-    ensures looked { IfOk result (λ look. is_hindered look ≡ false → HasLookedAtQuietly (P.next setting.now.program.now) (P.output setting.now.program.now) setting.now.ranks bounds.polls (races_of races.now) met.new turns.now) }
-    ensures along { IfOk result (λ look. (turn : Turn) → look ≡ Followed turn → IsCourse R.standing setting.now.program.now setting.now.ranks (made_by (P.next setting.now.program.now) setting.now.ranks (turns.now ++ turn ∷ [])) course.new.machine course.new.runs.items) }
+    requires state { IsState (P.next setting.now.program.now) setting.now.ranks (events_of_turns (P.next setting.now.program.now) setting.now.ranks setting.now.under.now) turns.now }
+    requires met { IsUnderWay (P.next setting.now.program.now) (P.output setting.now.program.now) setting.now.ranks (events_of_turns (P.next setting.now.program.now) setting.now.ranks setting.now.under.now) met.old }
+    requires course { IsCourse R.standing setting.now.program.now setting.now.ranks (events_of_turns (P.next setting.now.program.now) setting.now.ranks turns.now) course.old.machine course.old.runs.items }
+    ensures went { OnOk result (WentOn (P.next setting.now.program.now) (P.output setting.now.program.now) setting.now.ranks (events_of_turns (P.next setting.now.program.now) setting.now.ranks setting.now.under.now) met.old met.new) }
+    ensures looked { IfOk result (λ look. is_hindered look ≡ false → HasLookedAtQuietly (question_of (P.next setting.now.program.now) (P.output setting.now.program.now) setting.now.ranks bounds.polls) (races_of races.now) met.new turns.now) }
+    ensures along { IfOk result (λ look. (turn : Turn) → look ≡ Followed turn → IsCourse R.standing setting.now.program.now setting.now.ranks (events_of_turns (P.next setting.now.program.now) setting.now.ranks (turns.now ++ turn ∷ [])) course.new.machine course.new.runs.items) }
 {
     if let Some(hindrance) = hindrance_at(setting, races, course, turns)? {
         return Ok(Look::Hindered(hindrance));
@@ -295,21 +295,21 @@ fn last_place(states: &[Turns], turns: &[Turn]) -> Option<usize>
 /// and its place is noted.
 fn look_along<'a, P: Program, R: RankRun<Of = P>, S: StartRanks<P, R>>(
     setting: &Setting<'a, P, S>,
-    bounds: Bounds,
+    bounds: SearchLimits,
     races: &Races,
     met: &mut Met,
     passed: &mut PassedStates,
-    course: &mut Course<'a, P, R>,
+    course: &mut SearchCourse<'a, P, R>,
     turns: &mut Turns,
 ) -> Result<Option<Hindrance>, AllocError>
     requires setting { IsSetting (S.program setting.now.starter.now) setting.now.program.now (number_of_ranks setting.now.plan.now) setting.now.ranks }
-    requires state { IsState (P.next setting.now.program.now) setting.now.ranks (made_by (P.next setting.now.program.now) setting.now.ranks setting.now.under.now) turns.old }
-    requires met { IsUnderWay (P.next setting.now.program.now) (P.output setting.now.program.now) setting.now.ranks (made_by (P.next setting.now.program.now) setting.now.ranks setting.now.under.now) met.old }
-    requires course { IsCourse R.standing setting.now.program.now setting.now.ranks (made_by (P.next setting.now.program.now) setting.now.ranks turns.old) course.old.machine course.old.runs.items }
-    requires passed { ArePassed (P.next setting.now.program.now) (P.output setting.now.program.now) setting.now.ranks bounds.polls (races_of races.now) met.old passed.old }
-    ensures went { OnOk result (WentOn (P.next setting.now.program.now) (P.output setting.now.program.now) setting.now.ranks (made_by (P.next setting.now.program.now) setting.now.ranks setting.now.under.now) met.old met.new) }
-    ensures looked { IfOk result (λ hindrance. hindrance ≡ None → HasLookedAtQuietly (P.next setting.now.program.now) (P.output setting.now.program.now) setting.now.ranks bounds.polls (races_of races.now) met.new turns.old) }
-    ensures passed { OnOk result (ArePassed (P.next setting.now.program.now) (P.output setting.now.program.now) setting.now.ranks bounds.polls (races_of races.now) met.new passed.new) }
+    requires state { IsState (P.next setting.now.program.now) setting.now.ranks (events_of_turns (P.next setting.now.program.now) setting.now.ranks setting.now.under.now) turns.old }
+    requires met { IsUnderWay (P.next setting.now.program.now) (P.output setting.now.program.now) setting.now.ranks (events_of_turns (P.next setting.now.program.now) setting.now.ranks setting.now.under.now) met.old }
+    requires course { IsCourse R.standing setting.now.program.now setting.now.ranks (events_of_turns (P.next setting.now.program.now) setting.now.ranks turns.old) course.old.machine course.old.runs.items }
+    requires passed { ArePassed (question_of (P.next setting.now.program.now) (P.output setting.now.program.now) setting.now.ranks bounds.polls) (races_of races.now) met.old passed.old }
+    ensures went { OnOk result (WentOn (P.next setting.now.program.now) (P.output setting.now.program.now) setting.now.ranks (events_of_turns (P.next setting.now.program.now) setting.now.ranks setting.now.under.now) met.old met.new) }
+    ensures looked { IfOk result (λ hindrance. hindrance ≡ None → HasLookedAtQuietly (question_of (P.next setting.now.program.now) (P.output setting.now.program.now) setting.now.ranks bounds.polls) (races_of races.now) met.new turns.old) }
+    ensures passed { OnOk result (ArePassed (question_of (P.next setting.now.program.now) (P.output setting.now.program.now) setting.now.ranks bounds.polls) (races_of races.now) met.new passed.new) }
 {
     let mut look = look_from(setting, bounds, races, met, course, turns.as_slice())?;
     for _ in 0..bounds.most {
@@ -331,21 +331,21 @@ fn look_along<'a, P: Program, R: RankRun<Of = P>, S: StartRanks<P, R>>(
 /// Looks at a state, where quiet calls go first, and at the new states that they lead to. Where the search cannot go on so, it says why.
 fn look_quietly<'a, P: Program, R: RankRun<Of = P>, S: StartRanks<P, R>>(
     setting: &Setting<'a, P, S>,
-    bounds: Bounds,
+    bounds: SearchLimits,
     races: &Races,
     met: &mut Met,
     passed: &mut PassedStates,
     turns: Turns,
 ) -> Result<Option<Hindrance>, AllocError>
     requires setting { IsSetting (S.program setting.now.starter.now) setting.now.program.now (number_of_ranks setting.now.plan.now) setting.now.ranks }
-    requires state { IsState (P.next setting.now.program.now) setting.now.ranks (made_by (P.next setting.now.program.now) setting.now.ranks setting.now.under.now) turns }
-    requires met { IsUnderWay (P.next setting.now.program.now) (P.output setting.now.program.now) setting.now.ranks (made_by (P.next setting.now.program.now) setting.now.ranks setting.now.under.now) met.old }
-    requires passed { ArePassed (P.next setting.now.program.now) (P.output setting.now.program.now) setting.now.ranks bounds.polls (races_of races.now) met.old passed.old }
-    ensures went { OnOk result (WentOn (P.next setting.now.program.now) (P.output setting.now.program.now) setting.now.ranks (made_by (P.next setting.now.program.now) setting.now.ranks setting.now.under.now) met.old met.new) }
-    ensures looked { IfOk result (λ hindrance. hindrance ≡ None → HasLookedAtQuietly (P.next setting.now.program.now) (P.output setting.now.program.now) setting.now.ranks bounds.polls (races_of races.now) met.new turns) }
-    ensures passed { OnOk result (ArePassed (P.next setting.now.program.now) (P.output setting.now.program.now) setting.now.ranks bounds.polls (races_of races.now) met.new passed.new) }
+    requires state { IsState (P.next setting.now.program.now) setting.now.ranks (events_of_turns (P.next setting.now.program.now) setting.now.ranks setting.now.under.now) turns }
+    requires met { IsUnderWay (P.next setting.now.program.now) (P.output setting.now.program.now) setting.now.ranks (events_of_turns (P.next setting.now.program.now) setting.now.ranks setting.now.under.now) met.old }
+    requires passed { ArePassed (question_of (P.next setting.now.program.now) (P.output setting.now.program.now) setting.now.ranks bounds.polls) (races_of races.now) met.old passed.old }
+    ensures went { OnOk result (WentOn (P.next setting.now.program.now) (P.output setting.now.program.now) setting.now.ranks (events_of_turns (P.next setting.now.program.now) setting.now.ranks setting.now.under.now) met.old met.new) }
+    ensures looked { IfOk result (λ hindrance. hindrance ≡ None → HasLookedAtQuietly (question_of (P.next setting.now.program.now) (P.output setting.now.program.now) setting.now.ranks bounds.polls) (races_of races.now) met.new turns) }
+    ensures passed { OnOk result (ArePassed (question_of (P.next setting.now.program.now) (P.output setting.now.program.now) setting.now.ranks bounds.polls) (races_of races.now) met.new passed.new) }
 {
-    let mut course: Course<'a, P, R> = after_turns(setting, turns.as_slice())?;
+    let mut course: SearchCourse<'a, P, R> = after_turns(setting, turns.as_slice())?;
     let mut turns = turns;
     look_along(setting, bounds, races, met, passed, &mut course, &mut turns)
 }
@@ -353,7 +353,7 @@ fn look_quietly<'a, P: Program, R: RankRun<Of = P>, S: StartRanks<P, R>>(
 /// Looks at the state at a place, unless that was done already. Where the search cannot go on so, it says why.
 pub fn look_once<'a, P: Program, R: RankRun<Of = P>, S: StartRanks<P, R>>(
     setting: &Setting<'a, P, S>,
-    bounds: Bounds,
+    bounds: SearchLimits,
     races: &Races,
     met: &mut Met,
     passed: &mut PassedStates,
@@ -361,13 +361,13 @@ pub fn look_once<'a, P: Program, R: RankRun<Of = P>, S: StartRanks<P, R>>(
     turns: Turns,
 ) -> Result<Option<Hindrance>, AllocError>
     requires setting { IsSetting (S.program setting.now.starter.now) setting.now.program.now (number_of_ranks setting.now.plan.now) setting.now.ranks }
-    requires state { IsState (P.next setting.now.program.now) setting.now.ranks (made_by (P.next setting.now.program.now) setting.now.ranks setting.now.under.now) turns }
+    requires state { IsState (P.next setting.now.program.now) setting.now.ranks (events_of_turns (P.next setting.now.program.now) setting.now.ranks setting.now.under.now) turns }
     requires place { slice_get met.old.states place ≡ Some turns }
-    requires met { IsUnderWay (P.next setting.now.program.now) (P.output setting.now.program.now) setting.now.ranks (made_by (P.next setting.now.program.now) setting.now.ranks setting.now.under.now) met.old }
-    requires passed { ArePassed (P.next setting.now.program.now) (P.output setting.now.program.now) setting.now.ranks bounds.polls (races_of races.now) met.old passed.old }
-    ensures went { OnOk result (WentOn (P.next setting.now.program.now) (P.output setting.now.program.now) setting.now.ranks (made_by (P.next setting.now.program.now) setting.now.ranks setting.now.under.now) met.old met.new) }
-    ensures looked { IfOk result (λ hindrance. hindrance ≡ None → HasLookedAtQuietly (P.next setting.now.program.now) (P.output setting.now.program.now) setting.now.ranks bounds.polls (races_of races.now) met.new turns) }
-    ensures passed { OnOk result (ArePassed (P.next setting.now.program.now) (P.output setting.now.program.now) setting.now.ranks bounds.polls (races_of races.now) met.new passed.new) }
+    requires met { IsUnderWay (P.next setting.now.program.now) (P.output setting.now.program.now) setting.now.ranks (events_of_turns (P.next setting.now.program.now) setting.now.ranks setting.now.under.now) met.old }
+    requires passed { ArePassed (question_of (P.next setting.now.program.now) (P.output setting.now.program.now) setting.now.ranks bounds.polls) (races_of races.now) met.old passed.old }
+    ensures went { OnOk result (WentOn (P.next setting.now.program.now) (P.output setting.now.program.now) setting.now.ranks (events_of_turns (P.next setting.now.program.now) setting.now.ranks setting.now.under.now) met.old met.new) }
+    ensures looked { IfOk result (λ hindrance. hindrance ≡ None → HasLookedAtQuietly (question_of (P.next setting.now.program.now) (P.output setting.now.program.now) setting.now.ranks bounds.polls) (races_of races.now) met.new turns) }
+    ensures passed { OnOk result (ArePassed (question_of (P.next setting.now.program.now) (P.output setting.now.program.now) setting.now.ranks bounds.polls) (races_of races.now) met.new passed.new) }
 {
     if passed.comes_to(place) {
         return Ok(None);
@@ -386,7 +386,7 @@ fn is_mismatched_ending(ending: Ending) -> bool
 }
 
 /// Whether one of the runs that were found ended by a mismatch.
-pub fn has_mismatch(listed: &[Found]) -> bool
+pub fn has_mismatch(listed: &[FoundOutcome]) -> bool
     ensures { result ≡ has_mismatch listed.now }
 {
     let mut rest = listed;

@@ -2,7 +2,7 @@
 ghost use Rattle.std.specs.Prelude.{◌≡◌, IfOk, true};
 ghost use Rattle.run_model.specs.Allowed.{takes_all};
 ghost use Rattle.mpi_call.specs.Calls.{makes};
-ghost use Rattle.explore.specs.RaceFlags.{and_race, no_races, race_in, race_next, race_of, races_of};
+ghost use Rattle.explore.specs.inside.RaceFlags.{and_race, no_races, race_in, race_next, race_of, races_of};
 ghost use Rattle.quiet_calls.specs.Quiet.{is_partial, is_quiet, is_racy, is_reckoned};
 
 use mpi_call::call::{Call, Kind, Source, TakeMode};
@@ -26,7 +26,7 @@ pub struct Races {
 }
 
 impl Model for Races {
-    ghost use Rattle.explore.specs.RaceFlags.{RaceFlags};
+    ghost use Rattle.explore.specs.inside.RaceFlags.{RaceFlags};
 
     ghost Value = { RaceFlags };
 

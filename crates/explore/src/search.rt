@@ -5,15 +5,15 @@ ghost use Rattle.group_plan.specs.Plans.{number_of_ranks};
 ghost use Rattle.picked_runs.specs.declared.turn.Turn.{Turn};
 ghost use Rattle.picked_runs.specs.Turns.{IsPickOf};
 ghost use Rattle.explore.specs.Courses.{IsSetting};
-ghost use Rattle.explore.specs.Explored.{IsExplored, made_by};
-ghost use Rattle.explore.specs.RaceFlags.{races_of};
+ghost use Rattle.explore.specs.Explored.{IsExplored, events_of_turns};
+ghost use Rattle.explore.specs.inside.RaceFlags.{races_of};
 ghost use Rattle.explore.specs.QuietFirst.{HasLookedAtQuietly};
 ghost use Rattle.explore.specs.declared.found.Explored.{Explored};
 ghost use Rattle.explore.specs.declared.search.QuietSearch.TheVariants.{Whole};
-ghost use Rattle.explore.specs.Searching.{HasBegun, HasLookedAt, IsUnderWay, WentOn};
+ghost use Rattle.explore.specs.Searching.{HasBegun, HasLookedAt, IsUnderWay, WentOn, question_of};
 
 use crate::ahead::PassedStates;
-use crate::course::{Bounds, Course, Setting, after_turns};
+use crate::course::{SearchCourse, SearchLimits, Setting, after_turns};
 use crate::found::{Explored, States};
 use crate::laws::{nothing_is_missed, nothing_is_missed_quietly};
 use crate::met::Met;
@@ -38,12 +38,12 @@ fn begin<'a, P: Program, R: RankRun<Of = P>, S: StartRanks<P, R>>(
     requires turns { All (λ turn. turn.rank < setting.now.ranks) setting.now.under.now }
     requires picks { All (λ turn. IsPickOf setting.now.ranks turn.pick) setting.now.under.now }
     requires met { met.old ≡ record { states = []; codes = []; found = []; polled = false } }
-    ensures under_way { OnOk result (IsUnderWay (P.next setting.now.program.now) (P.output setting.now.program.now) setting.now.ranks (made_by (P.next setting.now.program.now) setting.now.ranks setting.now.under.now) met.new) }
+    ensures under_way { OnOk result (IsUnderWay (P.next setting.now.program.now) (P.output setting.now.program.now) setting.now.ranks (events_of_turns (P.next setting.now.program.now) setting.now.ranks setting.now.under.now) met.new) }
     ensures begun { OnOk result (HasBegun (P.next setting.now.program.now) (P.output setting.now.program.now) setting.now.ranks setting.now.under.now met.new) }
 {
     // A law: a run that picks make has a recording machine's numbers.
     picks_go_on(setting.program, setting.ranks);
-    let course: Course<'a, P, R> = after_turns(setting, setting.under)?;
+    let course: SearchCourse<'a, P, R> = after_turns(setting, setting.under)?;
     let halt = course.machine.halt();
     let (history, _picks) = course.machine.into_run();
     let turns = copy_of(setting.alloc, setting.under)?;
@@ -69,14 +69,14 @@ fn tell<W: Watcher>(met: &Met, looked: u32, ahead: usize, watcher: &mut W) {
 /// Looks at states in the order in which they were met, until all or enough are looked at: how many were looked at.
 fn look_at_all<P: Program, R: RankRun<Of = P>, S: StartRanks<P, R>, W: Watcher>(
     setting: &Setting<'_, P, S>,
-    bounds: Bounds,
+    bounds: SearchLimits,
     met: &mut Met,
     watcher: &mut W,
 ) -> Result<u32, AllocError>
     requires setting { IsSetting (S.program setting.now.starter.now) setting.now.program.now (number_of_ranks setting.now.plan.now) setting.now.ranks }
-    requires met { IsUnderWay (P.next setting.now.program.now) (P.output setting.now.program.now) setting.now.ranks (made_by (P.next setting.now.program.now) setting.now.ranks setting.now.under.now) met.old }
-    ensures went { OnOk result (WentOn (P.next setting.now.program.now) (P.output setting.now.program.now) setting.now.ranks (made_by (P.next setting.now.program.now) setting.now.ranks setting.now.under.now) met.old met.new) }
-    ensures looked { IfOk result (λ looked. (turns : List Turn) → IsIn turns (take looked met.new.states) → HasLookedAt (P.next setting.now.program.now) (P.output setting.now.program.now) setting.now.ranks bounds.polls met.new turns) }
+    requires met { IsUnderWay (P.next setting.now.program.now) (P.output setting.now.program.now) setting.now.ranks (events_of_turns (P.next setting.now.program.now) setting.now.ranks setting.now.under.now) met.old }
+    ensures went { OnOk result (WentOn (P.next setting.now.program.now) (P.output setting.now.program.now) setting.now.ranks (events_of_turns (P.next setting.now.program.now) setting.now.ranks setting.now.under.now) met.old met.new) }
+    ensures looked { IfOk result (λ looked. (turns : List Turn) → IsIn turns (take looked met.new.states) → HasLookedAt (question_of (P.next setting.now.program.now) (P.output setting.now.program.now) setting.now.ranks bounds.polls) met.new turns) }
 {
     for at in 0..bounds.most {
         let Some(turns) = met.states.as_slice().get(at as usize) else {
@@ -92,15 +92,15 @@ fn look_at_all<P: Program, R: RankRun<Of = P>, S: StartRanks<P, R>, W: Watcher>(
 /// Looks at states in the order in which they were met, where quiet calls go first, until all are looked at; or why that cannot be done.
 fn look_at_all_quietly<P: Program, R: RankRun<Of = P>, S: StartRanks<P, R>, W: Watcher>(
     setting: &Setting<'_, P, S>,
-    bounds: Bounds,
+    bounds: SearchLimits,
     races: &Races,
     met: &mut Met,
     watcher: &mut W,
 ) -> Result<Option<Hindrance>, AllocError>
     requires setting { IsSetting (S.program setting.now.starter.now) setting.now.program.now (number_of_ranks setting.now.plan.now) setting.now.ranks }
-    requires met { IsUnderWay (P.next setting.now.program.now) (P.output setting.now.program.now) setting.now.ranks (made_by (P.next setting.now.program.now) setting.now.ranks setting.now.under.now) met.old }
-    ensures went { OnOk result (WentOn (P.next setting.now.program.now) (P.output setting.now.program.now) setting.now.ranks (made_by (P.next setting.now.program.now) setting.now.ranks setting.now.under.now) met.old met.new) }
-    ensures looked { IfOk result (λ hindrance. hindrance ≡ None → (turns : List Turn) → IsIn turns met.new.states → HasLookedAtQuietly (P.next setting.now.program.now) (P.output setting.now.program.now) setting.now.ranks bounds.polls (races_of races.now) met.new turns) }
+    requires met { IsUnderWay (P.next setting.now.program.now) (P.output setting.now.program.now) setting.now.ranks (events_of_turns (P.next setting.now.program.now) setting.now.ranks setting.now.under.now) met.old }
+    ensures went { OnOk result (WentOn (P.next setting.now.program.now) (P.output setting.now.program.now) setting.now.ranks (events_of_turns (P.next setting.now.program.now) setting.now.ranks setting.now.under.now) met.old met.new) }
+    ensures looked { IfOk result (λ hindrance. hindrance ≡ None → (turns : List Turn) → IsIn turns met.new.states → HasLookedAtQuietly (question_of (P.next setting.now.program.now) (P.output setting.now.program.now) setting.now.ranks bounds.polls) (races_of races.now) met.new turns) }
 {
     let mut passed = PassedStates::new(setting.alloc);
     for at in 0..bounds.most {
@@ -146,7 +146,7 @@ enum QuietSearch {
 /// A search in which quiet calls go first, where it can be ended so.
 fn search_quietly<P: Program, R: RankRun<Of = P>, S: StartRanks<P, R>, W: Watcher>(
     setting: &Setting<'_, P, S>,
-    bounds: Bounds,
+    bounds: SearchLimits,
     races: &Races,
     watcher: &mut W,
 ) -> Result<QuietSearch, AllocError>
@@ -178,7 +178,7 @@ fn search_quietly<P: Program, R: RankRun<Of = P>, S: StartRanks<P, R>, W: Watche
 /// A search in which all moves of each state are followed.
 fn search_all<P: Program, R: RankRun<Of = P>, S: StartRanks<P, R>, W: Watcher>(
     setting: &Setting<'_, P, S>,
-    bounds: Bounds,
+    bounds: SearchLimits,
     watcher: &mut W,
 ) -> Result<Explored, AllocError>
     requires setting { IsSetting (S.program setting.now.starter.now) setting.now.program.now (number_of_ranks setting.now.plan.now) setting.now.ranks }
@@ -209,7 +209,7 @@ fn search_all<P: Program, R: RankRun<Of = P>, S: StartRanks<P, R>, W: Watcher>(
 /// so; `watcher` is told on the way how far the search is, and a search that begins again counts anew.
 pub fn explore<P: Program, R: RankRun<Of = P>, S: StartRanks<P, R>, W: Watcher>(
     setting: &Setting<'_, P, S>,
-    bounds: Bounds,
+    bounds: SearchLimits,
     watcher: &mut W,
 ) -> Result<Explored, AllocError>
     requires setting { IsSetting (S.program setting.now.starter.now) setting.now.program.now (number_of_ranks setting.now.plan.now) setting.now.ranks }

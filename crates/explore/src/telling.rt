@@ -1,8 +1,8 @@
 //! What is told of a run.
 ghost use Rattle.std.specs.Prelude.{◌≡◌, [], IfOk};
 ghost use Rattle.std.specs.List.{slice_index_or};
-ghost use Rattle.run_states.specs.Outcomes.{ending_told, ranks_told};
-ghost use Rattle.explore.specs.Courses.{outcome_told};
+ghost use Rattle.run_states.specs.Outcomes.{reported_ending, reported_ranks};
+ghost use Rattle.explore.specs.Courses.{reported_outcome};
 
 use crate::found::Outcome;
 use mpi_call::call::Halt;
@@ -14,7 +14,7 @@ use wiz_base::bytes::Bytes;
 
 /// The ending as it is told.
 fn ending_told(ending: Ending) -> Ending
-    ensures { result ≡ ending_told ending }
+    ensures { result ≡ reported_ending ending }
 {
     match ending {
         Ending::Halted(Halt::Mismatched { .. }) => { Ending::Halted(Halt::Mismatched { rank: 0 }) }
@@ -24,7 +24,7 @@ fn ending_told(ending: Ending) -> Ending
 
 /// The ranks that tell of a run with this ending.
 fn ranks_told(alloc: Global, n: u8, ending: Ending) -> Result<Ranks, AllocError>
-    ensures { IfOk result (λ ranks. ranks ≡ ranks_told n ending) }
+    ensures { IfOk result (λ ranks. ranks ≡ reported_ranks n ending) }
 {
     let mut ranks = Ranks::new(alloc);
     match ending {
@@ -50,7 +50,7 @@ fn printed_by(alloc: Global, outputs: &Outputs, rank: u8) -> Result<Bytes, Alloc
 
 /// What is told of a run with this ending, by what each rank printed.
 pub fn told(alloc: Global, n: u8, ending: Ending, outputs: &Outputs) -> Result<Outcome, AllocError>
-    ensures { IfOk result (λ outcome. outcome ≡ outcome_told n ending outputs.now) }
+    ensures { IfOk result (λ outcome. outcome ≡ reported_outcome n ending outputs.now) }
 {
     let ranks = ranks_told(alloc, n, ending)?;
     let mut outcome = Outcome::new(alloc, ending_told(ending));

@@ -6,11 +6,11 @@ ghost use Rattle.run_model.specs.declared.event.Event.{Event};
 ghost use Rattle.picked_runs.specs.declared.turn.Turn.{Turn};
 ghost use Rattle.picked_runs.specs.Picks.{looks};
 ghost use Rattle.explore.specs.Courses.{IsCourse, IsSetting};
-ghost use Rattle.explore.specs.Explored.{made_by};
-ghost use Rattle.explore.specs.Searching.{HasLookedAt, HasTried, HasTriedPicks, HasTriedRanks, IsAnyPick, IsAtEnd, IsIndexBelow, IsNoted, IsSenderBelow, IsState, IsStep, IsStepFollowed, IsTurnMade, IsUnanswered, IsUnder, IsUnderWay, WentOn};
+ghost use Rattle.explore.specs.Explored.{events_of_turns};
+ghost use Rattle.explore.specs.Searching.{HasLookedAt, HasTried, HasTriedPicks, HasTriedRanks, IsAnyPick, IsAtEnd, IsIndexBelow, IsOutcomeListed, IsSenderBelow, IsState, IsSearchStep, IsStepFollowed, IsTurnMade, IsUnanswered, IsUnder, IsUnderWay, WentOn, question_of};
 
 use crate::back::take_back;
-use crate::course::{Bounds, Course, Setting, after_turns, answer, outcome_by};
+use crate::course::{SearchCourse, SearchLimits, Setting, after_turns, answer, outcome_by};
 use crate::met::Met;
 use crate::probes::{is_patient, keeps_probe};
 use crate::ranks::StartRanks;
@@ -48,14 +48,14 @@ fn and_turn(alloc: Global, turns: &[Turn], turn: Turn) -> Result<Turns, AllocErr
 /// Notes what a run without a halt left by its last event: a state, where the event keeps its probe and its rank is patient.
 fn note_state<P: Program, S>(
     setting: &Setting<'_, P, S>,
-    bounds: Bounds,
+    bounds: SearchLimits,
     met: &mut Met,
     history: &History,
     turns: Turns,
 ) -> Result<(), AllocError>
-    requires met { IsUnderWay (P.next setting.now.program.now) (P.output setting.now.program.now) setting.now.ranks (made_by (P.next setting.now.program.now) setting.now.ranks setting.now.under.now) met.old }
-    requires step { (before : List Event) × (event : Event) × IsStep (P.next setting.now.program.now) setting.now.ranks (made_by (P.next setting.now.program.now) setting.now.ranks setting.now.under.now) turns before event history.now.events }
-    ensures went { OnOk result (WentOn (P.next setting.now.program.now) (P.output setting.now.program.now) setting.now.ranks (made_by (P.next setting.now.program.now) setting.now.ranks setting.now.under.now) met.old met.new) }
+    requires met { IsUnderWay (P.next setting.now.program.now) (P.output setting.now.program.now) setting.now.ranks (events_of_turns (P.next setting.now.program.now) setting.now.ranks setting.now.under.now) met.old }
+    requires step { IsSearchStep (P.next setting.now.program.now) setting.now.ranks (events_of_turns (P.next setting.now.program.now) setting.now.ranks setting.now.under.now) turns history.now.events }
+    ensures went { OnOk result (WentOn (P.next setting.now.program.now) (P.output setting.now.program.now) setting.now.ranks (events_of_turns (P.next setting.now.program.now) setting.now.ranks setting.now.under.now) met.old met.new) }
     ensures followed { OnOk result (IsStepFollowed (P.next setting.now.program.now) setting.now.ranks bounds.polls met.new history.now.events) }
 {
     let [before @ .., event] = history.as_slice() else {
@@ -82,11 +82,11 @@ pub fn note_end<P: Program, R: RankRun<Of = P>, S: StartRanks<P, R>>(
     turns: Turns,
 ) -> Result<(), AllocError>
     requires setting { IsSetting (S.program setting.now.starter.now) setting.now.program.now (number_of_ranks setting.now.plan.now) setting.now.ranks }
-    requires met { IsUnderWay (P.next setting.now.program.now) (P.output setting.now.program.now) setting.now.ranks (made_by (P.next setting.now.program.now) setting.now.ranks setting.now.under.now) met.old }
-    requires turns { IsUnder (P.next setting.now.program.now) setting.now.ranks (made_by (P.next setting.now.program.now) setting.now.ranks setting.now.under.now) turns }
-    requires end { IsAtEnd (P.next setting.now.program.now) setting.now.ranks (made_by (P.next setting.now.program.now) setting.now.ranks turns) }
-    ensures went { OnOk result (WentOn (P.next setting.now.program.now) (P.output setting.now.program.now) setting.now.ranks (made_by (P.next setting.now.program.now) setting.now.ranks setting.now.under.now) met.old met.new) }
-    ensures noted { OnOk result (IsNoted (P.next setting.now.program.now) (P.output setting.now.program.now) setting.now.ranks turns met.new.found) }
+    requires met { IsUnderWay (P.next setting.now.program.now) (P.output setting.now.program.now) setting.now.ranks (events_of_turns (P.next setting.now.program.now) setting.now.ranks setting.now.under.now) met.old }
+    requires turns { IsUnder (P.next setting.now.program.now) setting.now.ranks (events_of_turns (P.next setting.now.program.now) setting.now.ranks setting.now.under.now) turns }
+    requires end { IsAtEnd (P.next setting.now.program.now) setting.now.ranks (events_of_turns (P.next setting.now.program.now) setting.now.ranks turns) }
+    ensures went { OnOk result (WentOn (P.next setting.now.program.now) (P.output setting.now.program.now) setting.now.ranks (events_of_turns (P.next setting.now.program.now) setting.now.ranks setting.now.under.now) met.old met.new) }
+    ensures noted { OnOk result (IsOutcomeListed (P.next setting.now.program.now) (P.output setting.now.program.now) setting.now.ranks turns met.new.found) }
 {
     // A law: a run that picks make has a recording machine's numbers.
     picks_go_on(setting.program, setting.ranks);
@@ -97,21 +97,21 @@ pub fn note_end<P: Program, R: RankRun<Of = P>, S: StartRanks<P, R>>(
 /// Notes what one more turn of a state came to.
 pub fn note<P: Program, R: RankRun<Of = P>, S: StartRanks<P, R>>(
     setting: &Setting<'_, P, S>,
-    bounds: Bounds,
+    bounds: SearchLimits,
     met: &mut Met,
-    course: &Course<'_, P, R>,
+    course: &SearchCourse<'_, P, R>,
     turns: &[Turn],
     turn: Turn,
 ) -> Result<(), AllocError>
     requires setting { IsSetting (S.program setting.now.starter.now) setting.now.program.now (number_of_ranks setting.now.plan.now) setting.now.ranks }
-    requires state { IsState (P.next setting.now.program.now) setting.now.ranks (made_by (P.next setting.now.program.now) setting.now.ranks setting.now.under.now) turns.now }
-    requires met { IsUnderWay (P.next setting.now.program.now) (P.output setting.now.program.now) setting.now.ranks (made_by (P.next setting.now.program.now) setting.now.ranks setting.now.under.now) met.old }
+    requires state { IsState (P.next setting.now.program.now) setting.now.ranks (events_of_turns (P.next setting.now.program.now) setting.now.ranks setting.now.under.now) turns.now }
+    requires met { IsUnderWay (P.next setting.now.program.now) (P.output setting.now.program.now) setting.now.ranks (events_of_turns (P.next setting.now.program.now) setting.now.ranks setting.now.under.now) met.old }
     requires rank { turn.rank < setting.now.ranks }
     requires program { course.now.machine.program ≡ setting.now.program.now }
     requires ranks { course.now.machine.ranks ≡ setting.now.ranks }
-    requires made { IsTurnMade (P.next setting.now.program.now) setting.now.ranks (made_by (P.next setting.now.program.now) setting.now.ranks turns.now) course.now.machine.events turn }
-    ensures went { OnOk result (WentOn (P.next setting.now.program.now) (P.output setting.now.program.now) setting.now.ranks (made_by (P.next setting.now.program.now) setting.now.ranks setting.now.under.now) met.old met.new) }
-    ensures tried { OnOk result (HasTried (P.next setting.now.program.now) (P.output setting.now.program.now) setting.now.ranks bounds.polls met.new (made_by (P.next setting.now.program.now) setting.now.ranks turns.now) turn) }
+    requires made { IsTurnMade (P.next setting.now.program.now) setting.now.ranks (events_of_turns (P.next setting.now.program.now) setting.now.ranks turns.now) course.now.machine.events turn }
+    ensures went { OnOk result (WentOn (P.next setting.now.program.now) (P.output setting.now.program.now) setting.now.ranks (events_of_turns (P.next setting.now.program.now) setting.now.ranks setting.now.under.now) met.old met.new) }
+    ensures tried { OnOk result (HasTried (question_of (P.next setting.now.program.now) (P.output setting.now.program.now) setting.now.ranks bounds.polls) met.new (events_of_turns (P.next setting.now.program.now) setting.now.ranks turns.now) turn) }
 {
     // A law: what a run comes to that is halted is decided by what was before, and by the halt.
     halts_decide_outcomes(setting.program, setting.ranks);
@@ -148,20 +148,20 @@ pub fn call_of<R: RankRun>(run: &mut R) -> Result<Option<Call>, AllocError>
 /// Tries one more turn of a state, and notes what it came to: whether it was answered.
 fn try_turn<'a, P: Program, R: RankRun<Of = P>, S: StartRanks<P, R>>(
     setting: &Setting<'a, P, S>,
-    bounds: Bounds,
+    bounds: SearchLimits,
     met: &mut Met,
-    course: &mut Course<'a, P, R>,
+    course: &mut SearchCourse<'a, P, R>,
     turns: &[Turn],
     turn: Turn,
 ) -> Result<bool, AllocError>
     requires setting { IsSetting (S.program setting.now.starter.now) setting.now.program.now (number_of_ranks setting.now.plan.now) setting.now.ranks }
-    requires state { IsState (P.next setting.now.program.now) setting.now.ranks (made_by (P.next setting.now.program.now) setting.now.ranks setting.now.under.now) turns.now }
-    requires met { IsUnderWay (P.next setting.now.program.now) (P.output setting.now.program.now) setting.now.ranks (made_by (P.next setting.now.program.now) setting.now.ranks setting.now.under.now) met.old }
-    requires course { IsCourse R.standing setting.now.program.now setting.now.ranks (made_by (P.next setting.now.program.now) setting.now.ranks turns.now) course.old.machine course.old.runs.items }
+    requires state { IsState (P.next setting.now.program.now) setting.now.ranks (events_of_turns (P.next setting.now.program.now) setting.now.ranks setting.now.under.now) turns.now }
+    requires met { IsUnderWay (P.next setting.now.program.now) (P.output setting.now.program.now) setting.now.ranks (events_of_turns (P.next setting.now.program.now) setting.now.ranks setting.now.under.now) met.old }
+    requires course { IsCourse R.standing setting.now.program.now setting.now.ranks (events_of_turns (P.next setting.now.program.now) setting.now.ranks turns.now) course.old.machine course.old.runs.items }
     requires rank { turn.rank < setting.now.ranks }
-    ensures course { OnOk result (IsCourse R.standing setting.now.program.now setting.now.ranks (made_by (P.next setting.now.program.now) setting.now.ranks turns.now) course.new.machine course.new.runs.items) }
-    ensures went { OnOk result (WentOn (P.next setting.now.program.now) (P.output setting.now.program.now) setting.now.ranks (made_by (P.next setting.now.program.now) setting.now.ranks setting.now.under.now) met.old met.new) }
-    ensures tried { IfOk result (λ answered. MatchBool answered (HasTried (P.next setting.now.program.now) (P.output setting.now.program.now) setting.now.ranks bounds.polls met.new (made_by (P.next setting.now.program.now) setting.now.ranks turns.now) turn) (IsUnanswered (P.next setting.now.program.now) setting.now.ranks (made_by (P.next setting.now.program.now) setting.now.ranks turns.now) turn)) }
+    ensures course { OnOk result (IsCourse R.standing setting.now.program.now setting.now.ranks (events_of_turns (P.next setting.now.program.now) setting.now.ranks turns.now) course.new.machine course.new.runs.items) }
+    ensures went { OnOk result (WentOn (P.next setting.now.program.now) (P.output setting.now.program.now) setting.now.ranks (events_of_turns (P.next setting.now.program.now) setting.now.ranks setting.now.under.now) met.old met.new) }
+    ensures tried { IfOk result (λ answered. MatchBool answered (HasTried (question_of (P.next setting.now.program.now) (P.output setting.now.program.now) setting.now.ranks bounds.polls) met.new (events_of_turns (P.next setting.now.program.now) setting.now.ranks turns.now) turn) (IsUnanswered (P.next setting.now.program.now) setting.now.ranks (events_of_turns (P.next setting.now.program.now) setting.now.ranks turns.now) turn)) }
 {
     let Some(call) = call_of(&mut course.runs[turn.rank as usize])? else {
         return Ok(false);
@@ -197,21 +197,21 @@ fn starts_for(call: &Call) -> usize
 /// Tries all senders for a rank's call: whether one was there.
 fn try_senders<'a, P: Program, R: RankRun<Of = P>, S: StartRanks<P, R>>(
     setting: &Setting<'a, P, S>,
-    bounds: Bounds,
+    bounds: SearchLimits,
     met: &mut Met,
-    course: &mut Course<'a, P, R>,
+    course: &mut SearchCourse<'a, P, R>,
     turns: &[Turn],
     rank: u8,
     count: u8,
 ) -> Result<bool, AllocError>
     requires setting { IsSetting (S.program setting.now.starter.now) setting.now.program.now (number_of_ranks setting.now.plan.now) setting.now.ranks }
-    requires state { IsState (P.next setting.now.program.now) setting.now.ranks (made_by (P.next setting.now.program.now) setting.now.ranks setting.now.under.now) turns.now }
-    requires met { IsUnderWay (P.next setting.now.program.now) (P.output setting.now.program.now) setting.now.ranks (made_by (P.next setting.now.program.now) setting.now.ranks setting.now.under.now) met.old }
-    requires course { IsCourse R.standing setting.now.program.now setting.now.ranks (made_by (P.next setting.now.program.now) setting.now.ranks turns.now) course.old.machine course.old.runs.items }
+    requires state { IsState (P.next setting.now.program.now) setting.now.ranks (events_of_turns (P.next setting.now.program.now) setting.now.ranks setting.now.under.now) turns.now }
+    requires met { IsUnderWay (P.next setting.now.program.now) (P.output setting.now.program.now) setting.now.ranks (events_of_turns (P.next setting.now.program.now) setting.now.ranks setting.now.under.now) met.old }
+    requires course { IsCourse R.standing setting.now.program.now setting.now.ranks (events_of_turns (P.next setting.now.program.now) setting.now.ranks turns.now) course.old.machine course.old.runs.items }
     requires rank { rank < setting.now.ranks }
-    ensures course { OnOk result (IsCourse R.standing setting.now.program.now setting.now.ranks (made_by (P.next setting.now.program.now) setting.now.ranks turns.now) course.new.machine course.new.runs.items) }
-    ensures went { OnOk result (WentOn (P.next setting.now.program.now) (P.output setting.now.program.now) setting.now.ranks (made_by (P.next setting.now.program.now) setting.now.ranks setting.now.under.now) met.old met.new) }
-    ensures tried { IfOk result (λ made. HasTriedPicks (P.next setting.now.program.now) (P.output setting.now.program.now) setting.now.ranks bounds.polls met.new (made_by (P.next setting.now.program.now) setting.now.ranks turns.now) rank (IsSenderBelow count) made) }
+    ensures course { OnOk result (IsCourse R.standing setting.now.program.now setting.now.ranks (events_of_turns (P.next setting.now.program.now) setting.now.ranks turns.now) course.new.machine course.new.runs.items) }
+    ensures went { OnOk result (WentOn (P.next setting.now.program.now) (P.output setting.now.program.now) setting.now.ranks (events_of_turns (P.next setting.now.program.now) setting.now.ranks setting.now.under.now) met.old met.new) }
+    ensures tried { IfOk result (λ made. HasTriedPicks (question_of (P.next setting.now.program.now) (P.output setting.now.program.now) setting.now.ranks bounds.polls) met.new (events_of_turns (P.next setting.now.program.now) setting.now.ranks turns.now) rank (IsSenderBelow count) made) }
 {
     let mut made = false;
     for sender in 0..count {
@@ -226,21 +226,21 @@ fn try_senders<'a, P: Program, R: RankRun<Of = P>, S: StartRanks<P, R>>(
 /// Tries all indices for a rank's call: whether one was there.
 fn try_indices<'a, P: Program, R: RankRun<Of = P>, S: StartRanks<P, R>>(
     setting: &Setting<'a, P, S>,
-    bounds: Bounds,
+    bounds: SearchLimits,
     met: &mut Met,
-    course: &mut Course<'a, P, R>,
+    course: &mut SearchCourse<'a, P, R>,
     turns: &[Turn],
     rank: u8,
     count: usize,
 ) -> Result<bool, AllocError>
     requires setting { IsSetting (S.program setting.now.starter.now) setting.now.program.now (number_of_ranks setting.now.plan.now) setting.now.ranks }
-    requires state { IsState (P.next setting.now.program.now) setting.now.ranks (made_by (P.next setting.now.program.now) setting.now.ranks setting.now.under.now) turns.now }
-    requires met { IsUnderWay (P.next setting.now.program.now) (P.output setting.now.program.now) setting.now.ranks (made_by (P.next setting.now.program.now) setting.now.ranks setting.now.under.now) met.old }
-    requires course { IsCourse R.standing setting.now.program.now setting.now.ranks (made_by (P.next setting.now.program.now) setting.now.ranks turns.now) course.old.machine course.old.runs.items }
+    requires state { IsState (P.next setting.now.program.now) setting.now.ranks (events_of_turns (P.next setting.now.program.now) setting.now.ranks setting.now.under.now) turns.now }
+    requires met { IsUnderWay (P.next setting.now.program.now) (P.output setting.now.program.now) setting.now.ranks (events_of_turns (P.next setting.now.program.now) setting.now.ranks setting.now.under.now) met.old }
+    requires course { IsCourse R.standing setting.now.program.now setting.now.ranks (events_of_turns (P.next setting.now.program.now) setting.now.ranks turns.now) course.old.machine course.old.runs.items }
     requires rank { rank < setting.now.ranks }
-    ensures course { OnOk result (IsCourse R.standing setting.now.program.now setting.now.ranks (made_by (P.next setting.now.program.now) setting.now.ranks turns.now) course.new.machine course.new.runs.items) }
-    ensures went { OnOk result (WentOn (P.next setting.now.program.now) (P.output setting.now.program.now) setting.now.ranks (made_by (P.next setting.now.program.now) setting.now.ranks setting.now.under.now) met.old met.new) }
-    ensures tried { IfOk result (λ made. HasTriedPicks (P.next setting.now.program.now) (P.output setting.now.program.now) setting.now.ranks bounds.polls met.new (made_by (P.next setting.now.program.now) setting.now.ranks turns.now) rank (IsIndexBelow count) made) }
+    ensures course { OnOk result (IsCourse R.standing setting.now.program.now setting.now.ranks (events_of_turns (P.next setting.now.program.now) setting.now.ranks turns.now) course.new.machine course.new.runs.items) }
+    ensures went { OnOk result (WentOn (P.next setting.now.program.now) (P.output setting.now.program.now) setting.now.ranks (events_of_turns (P.next setting.now.program.now) setting.now.ranks setting.now.under.now) met.old met.new) }
+    ensures tried { IfOk result (λ made. HasTriedPicks (question_of (P.next setting.now.program.now) (P.output setting.now.program.now) setting.now.ranks bounds.polls) met.new (events_of_turns (P.next setting.now.program.now) setting.now.ranks turns.now) rank (IsIndexBelow count) made) }
 {
     let mut made = false;
     for index in 0..count {
@@ -258,20 +258,20 @@ fn try_indices<'a, P: Program, R: RankRun<Of = P>, S: StartRanks<P, R>>(
 /// Tries all turns of a rank after a state: whether one was answered. Nothing is picked only where nothing can be.
 fn try_rank<'a, P: Program, R: RankRun<Of = P>, S: StartRanks<P, R>>(
     setting: &Setting<'a, P, S>,
-    bounds: Bounds,
+    bounds: SearchLimits,
     met: &mut Met,
-    course: &mut Course<'a, P, R>,
+    course: &mut SearchCourse<'a, P, R>,
     turns: &[Turn],
     rank: u8,
 ) -> Result<bool, AllocError>
     requires setting { IsSetting (S.program setting.now.starter.now) setting.now.program.now (number_of_ranks setting.now.plan.now) setting.now.ranks }
-    requires state { IsState (P.next setting.now.program.now) setting.now.ranks (made_by (P.next setting.now.program.now) setting.now.ranks setting.now.under.now) turns.now }
-    requires met { IsUnderWay (P.next setting.now.program.now) (P.output setting.now.program.now) setting.now.ranks (made_by (P.next setting.now.program.now) setting.now.ranks setting.now.under.now) met.old }
-    requires course { IsCourse R.standing setting.now.program.now setting.now.ranks (made_by (P.next setting.now.program.now) setting.now.ranks turns.now) course.old.machine course.old.runs.items }
+    requires state { IsState (P.next setting.now.program.now) setting.now.ranks (events_of_turns (P.next setting.now.program.now) setting.now.ranks setting.now.under.now) turns.now }
+    requires met { IsUnderWay (P.next setting.now.program.now) (P.output setting.now.program.now) setting.now.ranks (events_of_turns (P.next setting.now.program.now) setting.now.ranks setting.now.under.now) met.old }
+    requires course { IsCourse R.standing setting.now.program.now setting.now.ranks (events_of_turns (P.next setting.now.program.now) setting.now.ranks turns.now) course.old.machine course.old.runs.items }
     requires rank { rank < setting.now.ranks }
-    ensures course { OnOk result (IsCourse R.standing setting.now.program.now setting.now.ranks (made_by (P.next setting.now.program.now) setting.now.ranks turns.now) course.new.machine course.new.runs.items) }
-    ensures went { OnOk result (WentOn (P.next setting.now.program.now) (P.output setting.now.program.now) setting.now.ranks (made_by (P.next setting.now.program.now) setting.now.ranks setting.now.under.now) met.old met.new) }
-    ensures tried { IfOk result (λ made. HasTriedPicks (P.next setting.now.program.now) (P.output setting.now.program.now) setting.now.ranks bounds.polls met.new (made_by (P.next setting.now.program.now) setting.now.ranks turns.now) rank IsAnyPick made) }
+    ensures course { OnOk result (IsCourse R.standing setting.now.program.now setting.now.ranks (events_of_turns (P.next setting.now.program.now) setting.now.ranks turns.now) course.new.machine course.new.runs.items) }
+    ensures went { OnOk result (WentOn (P.next setting.now.program.now) (P.output setting.now.program.now) setting.now.ranks (events_of_turns (P.next setting.now.program.now) setting.now.ranks setting.now.under.now) met.old met.new) }
+    ensures tried { IfOk result (λ made. HasTriedPicks (question_of (P.next setting.now.program.now) (P.output setting.now.program.now) setting.now.ranks bounds.polls) met.new (events_of_turns (P.next setting.now.program.now) setting.now.ranks turns.now) rank IsAnyPick made) }
 {
     let Some(call) = call_of(&mut course.runs[rank as usize])? else {
         return Ok(false);
@@ -291,17 +291,17 @@ fn try_rank<'a, P: Program, R: RankRun<Of = P>, S: StartRanks<P, R>>(
 /// Tries all turns of each rank after a state: whether one was answered.
 fn try_ranks<'a, P: Program, R: RankRun<Of = P>, S: StartRanks<P, R>>(
     setting: &Setting<'a, P, S>,
-    bounds: Bounds,
+    bounds: SearchLimits,
     met: &mut Met,
-    course: &mut Course<'a, P, R>,
+    course: &mut SearchCourse<'a, P, R>,
     turns: &[Turn],
 ) -> Result<bool, AllocError>
     requires setting { IsSetting (S.program setting.now.starter.now) setting.now.program.now (number_of_ranks setting.now.plan.now) setting.now.ranks }
-    requires state { IsState (P.next setting.now.program.now) setting.now.ranks (made_by (P.next setting.now.program.now) setting.now.ranks setting.now.under.now) turns.now }
-    requires met { IsUnderWay (P.next setting.now.program.now) (P.output setting.now.program.now) setting.now.ranks (made_by (P.next setting.now.program.now) setting.now.ranks setting.now.under.now) met.old }
-    requires course { IsCourse R.standing setting.now.program.now setting.now.ranks (made_by (P.next setting.now.program.now) setting.now.ranks turns.now) course.old.machine course.old.runs.items }
-    ensures went { OnOk result (WentOn (P.next setting.now.program.now) (P.output setting.now.program.now) setting.now.ranks (made_by (P.next setting.now.program.now) setting.now.ranks setting.now.under.now) met.old met.new) }
-    ensures tried { IfOk result (λ made. HasTriedRanks (P.next setting.now.program.now) (P.output setting.now.program.now) setting.now.ranks bounds.polls met.new (made_by (P.next setting.now.program.now) setting.now.ranks turns.now) setting.now.ranks made) }
+    requires state { IsState (P.next setting.now.program.now) setting.now.ranks (events_of_turns (P.next setting.now.program.now) setting.now.ranks setting.now.under.now) turns.now }
+    requires met { IsUnderWay (P.next setting.now.program.now) (P.output setting.now.program.now) setting.now.ranks (events_of_turns (P.next setting.now.program.now) setting.now.ranks setting.now.under.now) met.old }
+    requires course { IsCourse R.standing setting.now.program.now setting.now.ranks (events_of_turns (P.next setting.now.program.now) setting.now.ranks turns.now) course.old.machine course.old.runs.items }
+    ensures went { OnOk result (WentOn (P.next setting.now.program.now) (P.output setting.now.program.now) setting.now.ranks (events_of_turns (P.next setting.now.program.now) setting.now.ranks setting.now.under.now) met.old met.new) }
+    ensures tried { IfOk result (λ made. HasTriedRanks (question_of (P.next setting.now.program.now) (P.output setting.now.program.now) setting.now.ranks bounds.polls) met.new (events_of_turns (P.next setting.now.program.now) setting.now.ranks turns.now) setting.now.ranks made) }
 {
     let mut made = false;
     for rank in 0..setting.ranks {
@@ -315,17 +315,17 @@ fn try_ranks<'a, P: Program, R: RankRun<Of = P>, S: StartRanks<P, R>>(
 /// Looks at a state, which the course stands at: tries all turns of each rank after it, and, where none is answered, notes what it comes to.
 pub fn look_from<'a, P: Program, R: RankRun<Of = P>, S: StartRanks<P, R>>(
     setting: &Setting<'a, P, S>,
-    bounds: Bounds,
+    bounds: SearchLimits,
     met: &mut Met,
-    course: &mut Course<'a, P, R>,
+    course: &mut SearchCourse<'a, P, R>,
     turns: Turns,
 ) -> Result<(), AllocError>
     requires setting { IsSetting (S.program setting.now.starter.now) setting.now.program.now (number_of_ranks setting.now.plan.now) setting.now.ranks }
-    requires state { IsState (P.next setting.now.program.now) setting.now.ranks (made_by (P.next setting.now.program.now) setting.now.ranks setting.now.under.now) turns }
-    requires met { IsUnderWay (P.next setting.now.program.now) (P.output setting.now.program.now) setting.now.ranks (made_by (P.next setting.now.program.now) setting.now.ranks setting.now.under.now) met.old }
-    requires course { IsCourse R.standing setting.now.program.now setting.now.ranks (made_by (P.next setting.now.program.now) setting.now.ranks turns) course.old.machine course.old.runs.items }
-    ensures went { OnOk result (WentOn (P.next setting.now.program.now) (P.output setting.now.program.now) setting.now.ranks (made_by (P.next setting.now.program.now) setting.now.ranks setting.now.under.now) met.old met.new) }
-    ensures looked { OnOk result (HasLookedAt (P.next setting.now.program.now) (P.output setting.now.program.now) setting.now.ranks bounds.polls met.new turns) }
+    requires state { IsState (P.next setting.now.program.now) setting.now.ranks (events_of_turns (P.next setting.now.program.now) setting.now.ranks setting.now.under.now) turns }
+    requires met { IsUnderWay (P.next setting.now.program.now) (P.output setting.now.program.now) setting.now.ranks (events_of_turns (P.next setting.now.program.now) setting.now.ranks setting.now.under.now) met.old }
+    requires course { IsCourse R.standing setting.now.program.now setting.now.ranks (events_of_turns (P.next setting.now.program.now) setting.now.ranks turns) course.old.machine course.old.runs.items }
+    ensures went { OnOk result (WentOn (P.next setting.now.program.now) (P.output setting.now.program.now) setting.now.ranks (events_of_turns (P.next setting.now.program.now) setting.now.ranks setting.now.under.now) met.old met.new) }
+    ensures looked { OnOk result (HasLookedAt (question_of (P.next setting.now.program.now) (P.output setting.now.program.now) setting.now.ranks bounds.polls) met.new turns) }
 {
     // A law: what a run comes to that is halted is decided by what was before, and by the halt.
     halts_decide_outcomes(setting.program, setting.ranks);
@@ -338,16 +338,16 @@ pub fn look_from<'a, P: Program, R: RankRun<Of = P>, S: StartRanks<P, R>>(
 /// Looks at a state: tries all turns of each rank after it, and, where none is answered, notes what it comes to.
 pub fn look_at<'a, P: Program, R: RankRun<Of = P>, S: StartRanks<P, R>>(
     setting: &Setting<'a, P, S>,
-    bounds: Bounds,
+    bounds: SearchLimits,
     met: &mut Met,
     turns: Turns,
 ) -> Result<(), AllocError>
     requires setting { IsSetting (S.program setting.now.starter.now) setting.now.program.now (number_of_ranks setting.now.plan.now) setting.now.ranks }
-    requires state { IsState (P.next setting.now.program.now) setting.now.ranks (made_by (P.next setting.now.program.now) setting.now.ranks setting.now.under.now) turns }
-    requires met { IsUnderWay (P.next setting.now.program.now) (P.output setting.now.program.now) setting.now.ranks (made_by (P.next setting.now.program.now) setting.now.ranks setting.now.under.now) met.old }
-    ensures went { OnOk result (WentOn (P.next setting.now.program.now) (P.output setting.now.program.now) setting.now.ranks (made_by (P.next setting.now.program.now) setting.now.ranks setting.now.under.now) met.old met.new) }
-    ensures looked { OnOk result (HasLookedAt (P.next setting.now.program.now) (P.output setting.now.program.now) setting.now.ranks bounds.polls met.new turns) }
+    requires state { IsState (P.next setting.now.program.now) setting.now.ranks (events_of_turns (P.next setting.now.program.now) setting.now.ranks setting.now.under.now) turns }
+    requires met { IsUnderWay (P.next setting.now.program.now) (P.output setting.now.program.now) setting.now.ranks (events_of_turns (P.next setting.now.program.now) setting.now.ranks setting.now.under.now) met.old }
+    ensures went { OnOk result (WentOn (P.next setting.now.program.now) (P.output setting.now.program.now) setting.now.ranks (events_of_turns (P.next setting.now.program.now) setting.now.ranks setting.now.under.now) met.old met.new) }
+    ensures looked { OnOk result (HasLookedAt (question_of (P.next setting.now.program.now) (P.output setting.now.program.now) setting.now.ranks bounds.polls) met.new turns) }
 {
-    let mut course: Course<'a, P, R> = after_turns(setting, turns.as_slice())?;
+    let mut course: SearchCourse<'a, P, R> = after_turns(setting, turns.as_slice())?;
     look_from(setting, bounds, met, &mut course, turns)
 }

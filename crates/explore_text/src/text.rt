@@ -1,10 +1,10 @@
 //! The text of a search.
 ghost use Rattle.std.specs.Prelude.{◌≡◌, ◌++◌, IfOk, OnOk, codes, flat_map};
 ghost use Rattle.wiz_base.specs.Decimals.{decimal_text};
-ghost use Rattle.explore_text.specs.ExploreTexts.{counts_text, explore_text, found_text, all_found_text, looked_text, outcome_text, printed_text, progress_text, told_ending_text, verdict_text};
+ghost use Rattle.explore_text.specs.ExploreTexts.{explored_counts_text, explore_text, found_outcome_text, all_found_text, looked_text, outcome_text, printed_text, progress_text, reported_ending_text, verdict_text};
 
-use explore::course::Bounds;
-use explore::found::{Explored, Found, Outcome};
+use explore::course::SearchLimits;
+use explore::found::{Explored, FoundOutcome, Outcome};
 use explore::watch::Progress;
 use mpi_call::call::Halt;
 use run_model::ending::Ending;
@@ -15,7 +15,7 @@ use wiz_base::{Bytes, push_decimal, push_text};
 /// What a search found, each outcome with the text of who waits in it, if there is one, and whether that is all.
 pub fn explore_text(
     alloc: Global,
-    bounds: Bounds,
+    bounds: SearchLimits,
     explored: &Explored,
     waits: &[Bytes],
 ) -> Result<Bytes, AllocError>
@@ -29,7 +29,11 @@ pub fn explore_text(
 }
 
 /// The outcomes, numbered from 0 on.
-fn push_all_found(out: &mut Bytes, listed: &[Found], waits: &[Bytes]) -> Result<(), AllocError>
+fn push_all_found(
+    out: &mut Bytes,
+    listed: &[FoundOutcome],
+    waits: &[Bytes],
+) -> Result<(), AllocError>
     ensures { OnOk result (out.new ≡ out.old ++ all_found_text 0 listed.now waits.now) }
 {
     let mut number = 0;
@@ -54,7 +58,7 @@ fn push_found(
     outcome: &Outcome,
     waits: &Bytes,
 ) -> Result<(), AllocError>
-    ensures { OnOk result (out.new ≡ out.old ++ found_text number outcome.now waits.now) }
+    ensures { OnOk result (out.new ≡ out.old ++ found_outcome_text number outcome.now waits.now) }
 {
     push_text(out, b"outcome ")?;
     push_decimal(out, number)?;
@@ -94,7 +98,7 @@ fn push_printed(out: &mut Bytes, printed: &(u8, Bytes)) -> Result<(), AllocError
 
 /// How the run ended; of a mismatch without its rank.
 fn push_told_ending(out: &mut Bytes, ending: &Ending) -> Result<(), AllocError>
-    ensures { OnOk result (out.new ≡ out.old ++ told_ending_text ending.now) }
+    ensures { OnOk result (out.new ≡ out.old ++ reported_ending_text ending.now) }
 {
     match ending {
         Ending::Halted(Halt::Mismatched { .. }) => push_text(out, b"halted mismatched\n"),
@@ -104,7 +108,7 @@ fn push_told_ending(out: &mut Bytes, ending: &Ending) -> Result<(), AllocError>
 
 /// How many outcomes there are, and how many states were met.
 fn push_counts(out: &mut Bytes, explored: &Explored) -> Result<(), AllocError>
-    ensures { OnOk result (out.new ≡ out.old ++ counts_text explored.now) }
+    ensures { OnOk result (out.new ≡ out.old ++ explored_counts_text explored.now) }
 {
     push_text(out, b"outcomes ")?;
     push_decimal(out, explored.found.as_slice().len() as u64)?;
@@ -114,7 +118,11 @@ fn push_counts(out: &mut Bytes, explored: &Explored) -> Result<(), AllocError>
 }
 
 /// Whether that is all.
-fn push_verdict(out: &mut Bytes, bounds: Bounds, explored: &Explored) -> Result<(), AllocError>
+fn push_verdict(
+    out: &mut Bytes,
+    bounds: SearchLimits,
+    explored: &Explored,
+) -> Result<(), AllocError>
     ensures { OnOk result (out.new ≡ out.old ++ verdict_text bounds.most bounds.polls explored.now.left explored.now.polled) }
 {
     match explored.left.as_slice() {

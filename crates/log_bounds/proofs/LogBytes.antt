@@ -9,7 +9,7 @@ use Rattle.mpi_call.specs.declared.reply.Reply.TheVariants.{Done, NotYet, Peeked
 use Rattle.mpi_call.specs.Calls.{listed_by}
 use Rattle.run_model.specs.declared.event.Event.{Event}
 use Rattle.run_model.specs.Due.{is_full, size_of_items, size_of_reply, total_size}
-use Rattle.run_model.specs.Program.{IsInBounds}
+use Rattle.run_model.specs.Program.{IsCallInBounds}
 use Rattle.run_model.specs.Run.{IsEvent, IsRun}
 use Rattle.run_model.specs.Views.{Next, view_of}
 use Rattle.run_model.proofs.Along.{Along-keeps, Along-snoc}
@@ -64,7 +64,7 @@ items_listed next n before event (Peeked source start tag count) lawful run step
 items_listed next n before event (Stopped halt) lawful run step is = omega arith
 items_listed next n before event (Took items) lawful run step is = (reply_taken next n before event items step is).few
 
-few_listed : (n got : ℕ) (call : Call) → IsInBounds n got call → length (listed_by call) ≤ 1000000
+few_listed : (n got : ℕ) (call : Call) → IsCallInBounds n got call → length (listed_by call) ≤ 1000000
 few_listed n got (Take starts mode) bounds = bounds.1
 few_listed n got (Send comm dest tag ints sync) bounds = omega arith
 few_listed n got (Post comm source tag room) bounds = omega arith

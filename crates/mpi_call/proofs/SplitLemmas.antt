@@ -7,7 +7,7 @@ use Rattle.std.proofs.lemmas.List.{take_all}
 use Rattle.std.specs.List.{zip}
 use Rattle.std.specs.Prelude.{int_lt}
 use Rattle.std.specs.Ordering.{int_eq}
-use Rattle.mpi_call.specs.Candidates.{candidate_of}
+use Rattle.mpi_call.specs.inside.Candidates.{candidate_of}
 use Rattle.mpi_call.specs.Made.{of_colour, placed, by_key, key_in, split_into}
 use Rattle.mpi_call.specs.Needs.{colour_in}
 use Rattle.mpi_call.specs.declared.splits.Candidate.{Candidate}

@@ -3,6 +3,7 @@ use Rattle.std.specs.Prelude.{ℕ, ℤ, List, [], Bool, true, false}
 use Rattle.mpi_call.specs.declared.call.Call.{Call}
 use Rattle.mpi_call.specs.declared.call.Call.TheVariants.{Send, Post, Enter, Take}
 use Rattle.mpi_call.specs.declared.call.Kind.TheVariants.{Split, Dup}
+use Rattle.mpi_call.specs.declared.call.Source.TheVariants.{Any}
 
 -- the communicator of a collective
 abbrev pub comm_of : Call → ℕ
@@ -19,6 +20,16 @@ ints_of call = []
 abbrev pub listed_by : Call → List ℕ
 listed_by (Take starts mode) = starts
 listed_by call = []
+
+-- a Send
+abbrev pub is_send : Call → Bool
+is_send (Send comm dest tag ints sync) = true
+is_send call = false
+
+-- a receive from any source
+abbrev pub is_wildcard : Call → Bool
+is_wildcard (Post comm Any tag room) = true
+is_wildcard call = false
 
 -- a collective
 abbrev pub is_enter : Call → Bool

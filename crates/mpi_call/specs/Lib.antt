@@ -1,6 +1,5 @@
 pub mod Acceptance
 pub mod Calls
-pub mod Candidates
 pub mod Collectives
 pub mod Halts
 pub mod Lists
@@ -9,3 +8,4 @@ pub mod Members
 pub mod Needs
 pub mod Operations
 pub mod Results
+pub mod inside

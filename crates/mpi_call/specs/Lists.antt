@@ -1,5 +1,5 @@
 -- Words on lists.
-use Rattle.std.specs.Prelude.{◌≡◌, ◌≤◌, ◌⊎◌, ◌+◌, ℕ, List, [], ◌∷◌, Bool, true, ◌&&◌, nat_le}
+use Rattle.std.specs.Prelude.{◌≡◌, ◌≤◌, ◌⊎◌, ◌+◌, ℕ, suc, List, [], ◌∷◌, Bool, true, ◌&&◌, if◌then◌else◌, nat_le, nat_lt}
 
 -- `x` is an element of the list. (As std's `Contains`, for proofs by the list's length.)
 abbrev pub IsIn : {A : Type 0} → A → List A → Type 0
@@ -15,3 +15,8 @@ Rises least (number ∷ numbers) = (least ≤ number) × Rises (number + 1) numb
 abbrev pub rises : ℕ → List ℕ → Bool
 rises least [] = true
 rises least (number ∷ numbers) = nat_le least number && rises (number + 1) numbers
+
+-- how many numbers are below another
+abbrev pub count_below : ℕ → List ℕ → ℕ
+count_below number [] = 0
+count_below number (other ∷ numbers) = if nat_lt other number then suc (count_below number numbers) else count_below number numbers

@@ -1,8 +1,7 @@
 //! Which members a collective's result needs, and which Enters agree.
 ghost use Rattle.std.specs.Prelude.{◌≡◌, IsTrue, negsuc};
 ghost use Rattle.mpi_call.specs.Calls.{is_enter};
-ghost use Rattle.mpi_call.specs.Members.{is_member};
-ghost use Rattle.mpi_call.specs.Needs.{agree, colour_in, is_root, kind_number, needs, op_number, same_op, same_root, undefined_colour, IsEnterOf};
+ghost use Rattle.mpi_call.specs.Needs.{agree, colour_in, is_root, kind_number, needs, op_number, same_op, same_root, undefined_colour};
 
 use crate::call::{Call, Kind};
 use crate::lists::{Ints, Ranks};
@@ -31,11 +30,8 @@ pub fn is_root(root: &Option<u8>, rank: u8) -> bool
     }
 }
 
-/// Whether the result of `me` needs what `who` entered; `enter` is the Enter of `me`. Takes no memory.
+/// Whether the result of `me` needs what `who` entered, of whatever Enter and members; `enter` is the Enter of `me`. Takes no memory.
 pub fn needs(enter: &Call, members: &Ranks, me: u8, who: u8) -> bool
-    requires form { IsEnterOf enter.now members.now me }
-    requires member { IsTrue (is_member members.now me) }
-    requires other { IsTrue (is_member members.now who) }
     ensures { result ≡ needs enter.now members.now me who }
 {
     let Call::Enter {

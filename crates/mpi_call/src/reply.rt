@@ -1,10 +1,10 @@
 //! The replies to calls.
-ghost use Rattle.std.specs.Prelude.{◌≡◌, ◌++◌, ◌∷◌, [], OnOk, IfErr, OnErr, IfOk, length};
+ghost use Rattle.std.specs.Prelude.{◌≡◌, IfOk};
 
 use crate::call::{Comm, Halt};
 use crate::lists::{Ints, Ranks};
-use std::alloc::{AllocError, AllocFailed, Global};
-use std::marker::Model;
+use listed::Listed;
+use std::alloc::AllocError;
 
 /// What the completion of a start gives.
 #[derive(Clone, Drop)]
@@ -39,46 +39,7 @@ pub struct Item {
 }
 
 /// Completed starts, which contracts see as a list.
-#[derive(Clone, Drop)]
-pub struct Items {
-    values: Vec<Item>,
-}
-
-impl Model for Items {
-    ghost use Rattle.std.specs.Prelude.{List};
-    ghost use Rattle.mpi_call.specs.declared.reply.Item.{Item};
-
-    ghost Value = { List Item };
-
-    ghost view = { λ s. s.values.items };
-}
-
-impl Items {
-    /// No items.
-    pub fn new(alloc: Global) -> Self
-        ensures { result ≡ [] }
-    {
-        Items {
-            values: Vec::new(alloc),
-        }
-    }
-
-    /// Adds an item at the end. When out of memory, the error gives it back and nothing has changed.
-    pub fn push(&mut self, value: Item) -> Result<(), AllocFailed<Item>>
-        ensures ok { OnOk result (self.new ≡ self.old ++ value ∷ []) }
-        ensures err { OnErr result (self.new ≡ self.old) }
-        ensures back { IfErr result (λ refused. refused.value ≡ value) }
-    {
-        self.values.push(value)
-    }
-
-    /// The items in order.
-    pub fn as_slice(&self) -> &[Item]
-        ensures { result.now ≡ self.now }
-    {
-        &self.values
-    }
-}
+pub type Items = Listed<Item>;
 
 /// The answer to a call.
 #[derive(Clone, Drop)]

@@ -13,19 +13,19 @@ use Rattle.mpi_call.specs.declared.reply.Reply.{Reply}
 use Rattle.mpi_call.specs.declared.reply.Reply.TheVariants.{Done, Stopped}
 use Rattle.mpi_call.specs.Calls.{is_enter, is_starting}
 use Rattle.run_model.specs.declared.event.Event.{Event}
-use Rattle.run_model.specs.Allowed.{can_go, flags_of, has_open, holds, is_prompt}
+use Rattle.run_model.specs.Allowed.{can_go, flags_of, has_open, mode_holds, is_prompt}
 use Rattle.run_model.specs.Choice.{choice}
 use Rattle.run_model.specs.Chosen.{chosen_answer, chosen_reply}
 use Rattle.run_model.specs.Due.{bad_request, due, halt_at, halted, is_full, is_mismatched, or_else}
 use Rattle.run_model.specs.Serial.{is_stuck, others_wait}
 use Rattle.run_model.specs.Shape.{is_test}
-use Rattle.run_model.specs.Views.{Next, View, view_of}
+use Rattle.run_model.specs.Views.{Next, View, moment_at, view_of}
 use Rattle.run_model.proofs.ChosenProbes.{peek_missed, peek_there}
 use Rattle.run_model.proofs.Origins.{AllBelow}
 use Rattle.run_model.proofs.Views.{option_cases}
 use Rattle.mpi_machine.specs.Courses.{bound_of}
 use Rattle.mpi_machine.specs.Turns.{HasReply, IsAsked, IsHeldBack, stage_of}
-use Rattle.mpi_machine.specs.Waits.{is_there, waits}
+use Rattle.mpi_machine.specs.Waits.{is_awaited_there, waits}
 
 pub record Unbound (events : List Event) : Type 0 where
   pub none : halted events ≡ None
@@ -119,11 +119,11 @@ pub take_free : (n : ℕ) (events : List Event) (me : ℕ) (starts : List ℕ) (
 take_free n events me starts mode free e = due_free n events (view_of events me) me (Take starts mode) free ∙ rw e refl
 
 pub take_answered : (n : ℕ) (events : List Event) (me : ℕ) (starts : List ℕ) (mode : TakeMode) (reply : Reply) → bound_of events ≡ None
-    → bad_request (view_of events me) [] starts ≡ None → holds mode (flags_of n events me (view_of events me) starts) ≡ true
+    → bad_request (view_of events me) [] starts ≡ None → mode_holds mode (flags_of (moment_at n events me) starts) ≡ true
     → chosen_answer n events me (view_of events me) (Take starts mode) ≡ reply → Answered n events me (Take starts mode) reply
 take_answered n events me starts mode reply free e h a =
     free_answered n events me (Take starts mode) reply (take_free n events me starts mode free e)
-    (or_right (is_test mode) (holds mode (flags_of n events me (view_of events me) starts)) h) a
+    (or_right (is_test mode) (mode_holds mode (flags_of (moment_at n events me) starts)) h) a
 
 or_none : (x y : Bool) → y ≡ false → (x || y) ≡ x
 or_none true y e = refl
@@ -134,12 +134,12 @@ and_yes true = refl
 and_yes false = refl
 
 pub take_held : (n : ℕ) (events : List Event) (me : ℕ) (starts : List ℕ) (mode : TakeMode) → bound_of events ≡ None
-    → bad_request (view_of events me) [] starts ≡ None → holds mode (flags_of n events me (view_of events me) starts) ≡ false
+    → bad_request (view_of events me) [] starts ≡ None → mode_holds mode (flags_of (moment_at n events me) starts) ≡ false
     → IsHeldBack n events me (Take starts mode) (is_test mode)
 take_held n events me starts mode free e h =
     let d = take_free n events me starts mode free e in
     record {
-      go = rw d (or_none (is_test mode) (holds mode (flags_of n events me (view_of events me) starts)) h);
+      go = rw d (or_none (is_test mode) (mode_holds mode (flags_of (moment_at n events me) starts)) h);
       reply_is = rw (d, h) refl;
       waiting = rw e (and_yes (is_test mode));
     }
@@ -170,7 +170,7 @@ peek_answered n events me comm source tag wait at reply all free e a =
     (or_right (not wait) (has_open n events me comm source tag) (peek_there n events me comm source tag wait at all e)) a
 
 pub has_reply : (next : Next) (n : ℕ) (events : List Event) (kept : List (Option Call)) (rank : ℕ) (call : Call) (reply : Reply)
-    → IsAsked next n events rank call → Answered n events rank call reply → HasReply next n events kept rank call reply
+    → IsAsked next n events rank call → Answered n events rank call reply → HasReply next (moment_at n events rank) kept call reply
 has_reply next n events kept rank call reply asked a =
     record {
       asked = asked;
@@ -188,7 +188,7 @@ no_some None h = refl
 no_some (Some x) h = absurd (cc)
 
 pub waits_go : (n : ℕ) (events : List Event) (me : ℕ) (call : Call) → AllBelow n events → bound_of events ≡ None
-    → waits (view_of events me) call ≡ true → can_go n events me (view_of events me) call ≡ is_there n events me call
+    → waits (view_of events me) call ≡ true → can_go n events me (view_of events me) call ≡ is_awaited_there n events me call
 waits_go n events me (Take starts mode) all free h =
     let parts = and_parts (not (is_test mode)) (not (is_some (bad_request (view_of events me) [] starts))) h in
     let bad = no_some (bad_request (view_of events me) [] starts) (not_true (is_some (bad_request (view_of events me) [] starts)) parts.1) in

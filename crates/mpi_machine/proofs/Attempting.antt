@@ -10,7 +10,7 @@ use Rattle.run_model.specs.Views.{Next, replies_in, view_of}
 use Rattle.run_model.proofs.RunLaws.{Lawful}
 use Rattle.mpi_machine.specs.declared.answer.Answer.{Answer}
 use Rattle.mpi_machine.specs.declared.answer.Answer.TheVariants.{Replied, Wait}
-use Rattle.mpi_machine.specs.Turns.{MachineState, StandsAt, after_answer, is_answered, answer_by, answer_of}
+use Rattle.mpi_machine.specs.Turns.{MachineState, IsAtStage, after_answer, is_answered, answer_by, attempt_answer}
 use Rattle.mpi_machine.proofs.Growing.{may_give}
 use Rattle.mpi_machine.proofs.Serially.{stands_on}
 
@@ -25,7 +25,7 @@ same_program machine rank call Wait = refl
 
 pub given : {P : Type 0} (next : Next) (machine later : MachineState P) (rank : ℕ) (call : Call) (turn : Answer) (reply : Reply)
     → Lawful next → IsRun next machine.ranks machine.events → IsRun next later.ranks later.events
-    → turn ≡ answer_of next machine.ranks machine.events machine.kept rank call → later ≡ after_answer machine rank call turn → turn ≡ Replied reply
+    → turn ≡ attempt_answer next machine.ranks machine.events machine.kept rank call → later ≡ after_answer machine rank call turn → turn ≡ Replied reply
     → MayGive next machine.ranks rank (replies_in (view_of machine.events rank)) reply
 given {P} next machine later rank call turn reply lawful run run_later is after replied =
     let made : Reply = chosen_reply machine.ranks machine.events rank call in
@@ -37,9 +37,9 @@ given {P} next machine later rank call turn reply lawful run run_later is after 
 
 pub goes_on_serially : {P : Type 0} (next : Next) (machine later : MachineState P) (rank : ℕ) (call : Call) (turn : Answer) (stage : Stage)
     → length machine.kept ≡ machine.ranks → rank < machine.ranks → call_after next machine.ranks machine.events rank ≡ Some call
-    → turn ≡ answer_of next machine.ranks machine.events machine.kept rank call → later ≡ after_answer machine rank call turn
-    → StandsAt machine stage → StandsAt later (attempt next machine.ranks stage rank)
+    → turn ≡ attempt_answer next machine.ranks machine.events machine.kept rank call → later ≡ after_answer machine rank call turn
+    → IsAtStage machine stage → IsAtStage later (attempt next machine.ranks stage rank)
 goes_on_serially {P} next machine later rank call turn stage many below asked is after stands =
-    let F : MachineState P → Type 0 = λ m. StandsAt m (attempt next machine.ranks stage rank) in
+    let F : MachineState P → Type 0 = λ m. IsAtStage m (attempt next machine.ranks stage rank) in
     subst F (sym (after ∙ ap (λ t. after_answer machine rank call t) is))
     (stands_on machine.program next machine.ranks machine.events machine.kept rank call stage many below asked stands)

@@ -12,7 +12,7 @@ use Rattle.run_model.specs.declared.event.Event.{Event}
 use Rattle.run_model.specs.Allowed.{flags_of}
 use Rattle.run_model.specs.Chosen.{halt_or}
 use Rattle.run_model.specs.Due.{bad_request, due}
-use Rattle.run_model.specs.Views.{Next, View, view_of}
+use Rattle.run_model.specs.Views.{Next, View, moment_at, view_of}
 use Rattle.picked_runs.specs.declared.turn.Pick.{Pick}
 use Rattle.picked_runs.specs.declared.turn.Pick.TheVariants.{First, Index}
 use Rattle.picked_runs.specs.Picks.{completes_one, has_pick, is_ready_at, picked_answer}
@@ -22,7 +22,7 @@ use Rattle.requests.specs.declared.requests.TakeAnswer.TheVariants.{Took, NotRea
 use Rattle.requests.specs.Histories.{AnswersAt, IsTakenAt}
 use Rattle.requests.specs.Taking.{takes_one}
 use Rattle.mpi_machine.specs.Courses.{bound_of}
-use Rattle.mpi_machine.specs.Made.{IsMade}
+use Rattle.mpi_machine.specs.Made.{IsMadeByPicks}
 use Rattle.mpi_machine.specs.Picking.{HasPicked, IsWritten}
 use Rattle.mpi_machine.specs.Turns.{IsAsked}
 use Rattle.mpi_machine.proofs.Answering.{no_some, not_true, take_free}
@@ -44,22 +44,22 @@ at_free : (n : ℕ) (events : List Event) (rank : ℕ) (starts : List ℕ) (mode
     → IsTakenAt n events rank starts index reply → due n events rank (view_of events rank) (Take starts mode) ≡ None
 at_free n events rank starts mode index reply free taken =
     let bad : Option ℕ = bad_request (view_of events rank) [] starts in
-    let parts = and_parts (not (is_some bad)) (is_ready_at (flags_of n events rank (view_of events rank) starts) index) taken.can in
+    let parts = and_parts (not (is_some bad)) (is_ready_at (flags_of (moment_at n events rank) starts) index) taken.can in
     take_free n events rank starts mode free (no_some bad (not_true (is_some bad) parts.0))
 
 pub at_offered : (n : ℕ) (events : List Event) (rank : ℕ) (starts : List ℕ) (mode : TakeMode) (index : ℕ) (reply : Reply) → bound_of events ≡ None
     → takes_one mode ≡ true → IsTakenAt n events rank starts index reply → has_pick n events rank (Take starts mode) (Index index) ≡ true
 at_offered n events rank starts mode index reply free one taken =
     let call : Call = Take starts mode in
-    let ready : Bool = is_ready_at (flags_of n events rank (view_of events rank) starts) index in
+    let ready : Bool = is_ready_at (flags_of (moment_at n events rank) starts) index in
     let parts = and_parts (not (is_some (bad_request (view_of events rank) [] starts))) ready taken.can in
     has_it n events rank call (Index index) (at_free n events rank starts mode index reply free taken) (both (completes_one call) ready (completes starts mode ∙ one) parts.1)
 
 -- a start that can be taken is what the call picks, with what is written down of it
-pub at_picks : (next : Next) (n : ℕ) (picks : List Pick) (events : List Event) (rank : ℕ) (starts : List ℕ) (mode : TakeMode) (index : ℕ) (written : Pick) (reply : Reply) → IsMade next n picks events
+pub at_picks : (next : Next) (n : ℕ) (picks : List Pick) (events : List Event) (rank : ℕ) (starts : List ℕ) (mode : TakeMode) (index : ℕ) (written : Pick) (reply : Reply) → IsMadeByPicks next n picks events
     → IsAsked next n events rank (Take starts mode) → bound_of events ≡ None → takes_one mode ≡ true → IsTakenAt n events rank starts index reply
     → (has_pick n events rank (Take starts mode) (Index index) ≡ true → IsWritten n events rank (Take starts mode) (Index index) written)
-    → HasPicked next n events rank (Take starts mode) written reply
+    → HasPicked next (moment_at n events rank) (Take starts mode) written reply
 at_picks next n picks events rank starts mode index written reply made asked free one taken is =
     let own : View = view_of events rank in
     let call : Call = Take starts mode in

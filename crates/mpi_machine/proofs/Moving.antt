@@ -8,25 +8,25 @@ use Rattle.mpi_call.specs.declared.call.Halt.{Halt}
 use Rattle.mpi_call.specs.declared.reply.Reply.{Reply}
 use Rattle.mpi_call.specs.declared.reply.Reply.TheVariants.{Done}
 use Rattle.mpi_call.specs.Calls.{is_starting}
-use Rattle.requests.specs.Histories.{IsIdle, Knows, KnowsStart}
-use Rattle.requests.specs.States.{State}
+use Rattle.requests.specs.Histories.{IsIdleEvent, KnowsHistory, KnowsStart}
+use Rattle.requests.specs.States.{MatchingState}
 use Rattle.run_model.specs.declared.event.Event.{Event}
-use Rattle.run_model.specs.Choice.{choice, mate_of}
+use Rattle.run_model.specs.Choice.{choice, chosen_mate}
 use Rattle.run_model.specs.Chosen.{chosen_event, chosen_reply, peeked_at, peeked_in}
 use Rattle.run_model.specs.Pairs.{Name, named}
 use Rattle.run_model.specs.Program.{ends}
-use Rattle.run_model.specs.Views.{Next, is_start, taken_of}
+use Rattle.run_model.specs.Views.{Next, is_start, moment_at, taken_of}
 use Rattle.run_model.proofs.RunLaws.{Lawful}
 use Rattle.mpi_machine.specs.declared.answer.Answer.TheVariants.{Replied}
 use Rattle.picked_runs.specs.declared.turn.Pick.{Pick}
 use Rattle.mpi_machine.specs.Courses.{has_ended}
-use Rattle.mpi_machine.specs.Made.{IsMade}
-use Rattle.mpi_machine.specs.Turns.{HasReply, IsAsked, MachineState, after_answer, last_reply, takes_none, answer_by, answer_of}
-use Rattle.mpi_machine.specs.Waits.{AreKept, Keeps}
+use Rattle.mpi_machine.specs.Made.{IsMadeByPicks}
+use Rattle.mpi_machine.specs.Turns.{HasReply, IsAsked, MachineState, after_answer, last_reply, takes_no_memory, answer_by, attempt_answer}
+use Rattle.mpi_machine.specs.Waits.{AreWaitingCalls, KeepsHistory}
 use Rattle.mpi_machine.proofs.Growing.{event_is, event_with, grown, idle_event, live}
 
 pub turn_is : (next : Next) (n : ℕ) (events : List Event) (kept : List (Option Call)) (rank : ℕ) (call : Call) (reply : Reply)
-    → HasReply next n events kept rank call reply → answer_of next n events kept rank call ≡ Replied reply
+    → HasReply next (moment_at n events rank) kept call reply → attempt_answer next n events kept rank call ≡ Replied reply
 turn_is next n events kept rank call reply has =
     ap (λ b. answer_by b (chosen_reply n events rank call)) has.answered ∙ ap (λ (r : Reply). Replied r) has.reply_is
 
@@ -35,18 +35,18 @@ machine_with program n events kept = record { program = program; ranks = n; even
 
 -- the machine after the answer whose event this is
 pub after_event : {P : Type 0} (program : P) (next : Next) (n : ℕ) (events : List Event) (kept : List (Option Call)) (rank : ℕ) (call : Call) (reply : Reply) (event : Event)
-    → HasReply next n events kept rank call reply → chosen_event n events rank call ≡ event
+    → HasReply next (moment_at n events rank) kept call reply → chosen_event n events rank call ≡ event
     → machine_with program n (events ++ event ∷ []) (slice_set kept rank None)
-    ≡ after_answer (machine_with program n events kept) rank call (answer_of next n events kept rank call)
+    ≡ after_answer (machine_with program n events kept) rank call (attempt_answer next n events kept rank call)
 after_event program next n events kept rank call reply event has is =
     ap (λ e. machine_with program n (events ++ e ∷ []) (slice_set kept rank None)) (sym is)
     ∙ ap (λ t. after_answer (machine_with program n events kept) rank call t) (sym (turn_is next n events kept rank call reply has))
 
 -- what is kept of a machine's fields is kept of what contracts see
-pub keeps_now : {P : Type 0} (next_of : P → Next) (picks : List Pick) (inside now : MachineState P) (state : State) → inside ≡ now
-    → Keeps (next_of inside.program) inside.ranks picks inside.events inside.kept state → Keeps (next_of now.program) now.ranks picks now.events now.kept state
+pub keeps_now : {P : Type 0} (next_of : P → Next) (picks : List Pick) (inside now : MachineState P) (state : MatchingState) → inside ≡ now
+    → KeepsHistory (next_of inside.program) inside.ranks picks inside.events inside.kept state → KeepsHistory (next_of now.program) now.ranks picks now.events now.kept state
 keeps_now {P} next_of picks inside now state same keeps =
-    let F : MachineState P → Type 0 = λ m. Keeps (next_of m.program) m.ranks picks m.events m.kept state in
+    let F : MachineState P → Type 0 = λ m. KeepsHistory (next_of m.program) m.ranks picks m.events m.kept state in
     subst F same keeps
 
 -- the machine after a reply whose event this is
@@ -56,14 +56,14 @@ pub after_reply : {P : Type 0} (program : P) (n : ℕ) (events : List Event) (ke
 after_reply program n events kept rank call reply event is = ap (λ e. machine_with program n (events ++ e ∷ []) (slice_set kept rank None)) (sym is)
 
 -- a rank with a next call has not ended
-pub live_in : (next : Next) (n : ℕ) (picks : List Pick) (events : List Event) (kept : List (Option Call)) (state : State) (rank : ℕ) (call : Call)
-    → Lawful next → Keeps next n picks events kept state → IsAsked next n events rank call → has_ended events rank ≡ false
+pub live_in : (next : Next) (n : ℕ) (picks : List Pick) (events : List Event) (kept : List (Option Call)) (state : MatchingState) (rank : ℕ) (call : Call)
+    → Lawful next → KeepsHistory next n picks events kept state → IsAsked next n events rank call → has_ended events rank ≡ false
 live_in next n picks events kept state rank call lawful keeps asked = live next n events rank call lawful keeps.made.run asked.below asked.asked
 
-pub idle_keeps : (next : Next) (n : ℕ) (picks : List Pick) (events : List Event) (kept : List (Option Call)) (state : State) (rank : ℕ) (call : Call) (reply : Reply)
-    → Lawful next → IsMade next n picks events → AreKept next n events kept → HasReply next n events kept rank call reply → is_start (call, reply) ≡ false
-    → Knows n (events ++ event_with rank call reply None ∷ []) state
-    → Keeps next n picks (events ++ event_with rank call reply None ∷ []) (slice_set kept rank None) state
+pub idle_keeps : (next : Next) (n : ℕ) (picks : List Pick) (events : List Event) (kept : List (Option Call)) (state : MatchingState) (rank : ℕ) (call : Call) (reply : Reply)
+    → Lawful next → IsMadeByPicks next n picks events → AreWaitingCalls next n events kept → HasReply next (moment_at n events rank) kept call reply → is_start (call, reply) ≡ false
+    → KnowsHistory n (events ++ event_with rank call reply None ∷ []) state
+    → KeepsHistory next n picks (events ++ event_with rank call reply None ∷ []) (slice_set kept rank None) state
 idle_keeps next n picks events kept state rank call reply lawful made are has idle knows =
     let g = grown next n picks events kept rank call reply (event_with rank call reply None) lawful made are has
     (idle_event n events rank call reply has.reply_is idle) knows.matcher.matched in
@@ -73,17 +73,17 @@ starting : (call : Call) → is_starting call ≡ true → is_start (call, Done)
 starting call h = rw h refl
 
 mate_found : (events : List Event) (rank : ℕ) (call : Call) (mate : Option ℕ) → is_start (call, Done) ≡ true → mate ≡ choice events rank call
-    → mate_of events rank call Done ≡ mate
+    → chosen_mate events rank call Done ≡ mate
 mate_found events rank call mate h e = rw h (sym e)
 
 pub start_event : (n : ℕ) (events : List Event) (rank : ℕ) (call : Call) (mate : Option ℕ) → chosen_reply n events rank call ≡ Done → is_starting call ≡ true
     → mate ≡ choice events rank call → chosen_event n events rank call ≡ event_with rank call Done mate
 start_event n events rank call mate r kind e = event_is n events rank call Done mate r (mate_found events rank call mate (starting call kind) e)
 
-pub start_keeps : (next : Next) (n : ℕ) (picks : List Pick) (events : List Event) (kept : List (Option Call)) (state : State) (rank : ℕ) (call : Call) (number : ℕ) (mate : Option ℕ)
-    → Lawful next → IsMade next n picks events → AreKept next n events kept → HasReply next n events kept rank call Done → is_starting call ≡ true
-    → KnowsStart n events rank call number mate state
-    → Keeps next n picks (events ++ event_with rank call Done mate ∷ []) (slice_set kept rank None) state
+pub start_keeps : (next : Next) (n : ℕ) (picks : List Pick) (events : List Event) (kept : List (Option Call)) (state : MatchingState) (rank : ℕ) (call : Call) (number : ℕ) (mate : Option ℕ)
+    → Lawful next → IsMadeByPicks next n picks events → AreWaitingCalls next n events kept → HasReply next (moment_at n events rank) kept call Done → is_starting call ≡ true
+    → KnowsStart (moment_at n events rank) call number mate state
+    → KeepsHistory next n picks (events ++ event_with rank call Done mate ∷ []) (slice_set kept rank None) state
 start_keeps next n picks events kept state rank call number mate lawful made are has kind knows =
     let g = grown next n picks events kept rank call Done (event_with rank call Done mate) lawful made are has
     (start_event n events rank call mate has.reply_is kind knows.choice_is) knows.knows.matcher.matched in
@@ -94,7 +94,7 @@ and_no true = refl
 and_no false = refl
 
 -- a rank's last event starts and completes nothing
-pub last_idle : (rank : ℕ) (call : Call) (halt : Option Halt) → ends (call, last_reply halt) ≡ true → IsIdle (event_with rank call (last_reply halt) None)
+pub last_idle : (rank : ℕ) (call : Call) (halt : Option Halt) → ends (call, last_reply halt) ≡ true → IsIdleEvent (event_with rank call (last_reply halt) None)
 last_idle rank call (Some halt) h = record { no_start = and_no (is_starting call); none_taken = refl; alone = refl }
 last_idle rank End None h = record { no_start = refl; none_taken = refl; alone = refl }
 last_idle rank (Send comm dest tag ints sync) None h = absurd (cc)
@@ -105,13 +105,13 @@ last_idle rank (Peek comm source tag wait) None h = absurd (cc)
 last_idle rank (Abort code) None h = absurd (cc)
 last_idle rank (Trap fault) None h = absurd (cc)
 
-pub idle_with : (rank : ℕ) (call : Call) (reply : Reply) → is_start (call, reply) ≡ false → taken_of ((call, reply) ∷ []) ≡ [] → IsIdle (event_with rank call reply None)
+pub idle_with : (rank : ℕ) (call : Call) (reply : Reply) → is_start (call, reply) ≡ false → taken_of ((call, reply) ∷ []) ≡ [] → IsIdleEvent (event_with rank call reply None)
 idle_with rank call reply s t = record { no_start = s; none_taken = t; alone = refl }
 
 -- what takes memory is no last reply
-pub more_takes : (events : List Event) (call : Call) (reply other : Reply) → other ≡ reply → ends (call, reply) ≡ false → takes_none events call other ≡ true → false ≡ true
+pub more_takes : (events : List Event) (call : Call) (reply other : Reply) → other ≡ reply → ends (call, reply) ≡ false → takes_no_memory events call other ≡ true → false ≡ true
 more_takes events call reply other e h t =
-    let F : Reply → Type 0 = λ r. takes_none events call r ≡ true in
+    let F : Reply → Type 0 = λ r. takes_no_memory events call r ≡ true in
     let parts = and_parts (ends (call, reply)) _ (subst F e t) in
     sym h ∙ parts.0
 

@@ -14,7 +14,7 @@ use Rattle.run_model.specs.Pairs.{name_at}
 use Rattle.run_model.specs.Program.{MayGive}
 use Rattle.run_model.specs.Run.{IsRun}
 use Rattle.run_model.specs.Serial.{Stage, call_after}
-use Rattle.run_model.specs.Views.{Next, is_start, replies_in, view_of}
+use Rattle.run_model.specs.Views.{Next, is_start, moment_at, replies_in, view_of}
 use Rattle.run_model.proofs.RunLaws.{IsRun-event, Lawful, event_shaped, kept_run}
 use Rattle.run_model.proofs.Views.{test_cases}
 use Rattle.picked_runs.specs.declared.turn.Pick.{Pick}
@@ -27,13 +27,13 @@ use Rattle.picked_runs.specs.Turns.{take_turn, turn_with}
 use Rattle.picked_runs.proofs.GoingOn.{picks_go_on}
 use Rattle.picked_runs.proofs.Making.{event_is, has_it}
 use Rattle.picked_runs.proofs.Padding.{length-picks}
-use Rattle.requests.specs.Histories.{Knows}
-use Rattle.requests.specs.States.{State}
+use Rattle.requests.specs.Histories.{KnowsHistory}
+use Rattle.requests.specs.States.{MatchingState}
 use Rattle.mpi_machine.specs.Courses.{bound_of}
-use Rattle.mpi_machine.specs.Made.{IsMade, IsNeeded, noted}
+use Rattle.mpi_machine.specs.Made.{IsMadeByPicks, IsNeeded, noted}
 use Rattle.mpi_machine.specs.Picking.{HasPicked, IsWritten, after_pick, picked_of}
-use Rattle.mpi_machine.specs.Turns.{IsAsked, MachineState, StandsAt}
-use Rattle.mpi_machine.specs.Waits.{AreKept, Keeps}
+use Rattle.mpi_machine.specs.Turns.{IsAsked, MachineState, IsAtStage}
+use Rattle.mpi_machine.specs.Waits.{AreWaitingCalls, KeepsHistory}
 use Rattle.mpi_machine.proofs.Answering.{due_free}
 use Rattle.mpi_machine.proofs.Growing.{event_with, few_more, kept_after}
 use Rattle.mpi_machine.proofs.Moving.{machine_with}
@@ -50,8 +50,8 @@ few_after : (picks : List Pick) (events : List Event) (event : Event) (pick : Pi
 few_after picks events event pick = omega (arith, length-picks picks (length events) pick, length-append events (event ∷ []))
 
 -- the events and what they picked, with one more
-made_more : (next : Next) (n : ℕ) (picks : List Pick) (events : List Event) (event : Event) (pick : Pick) → IsMade next n picks events
-    → AreMorePicked next n picks events pick event → IsNeeded n events event pick → IsMade next n (noted picks (length events) pick) (events ++ event ∷ [])
+made_more : (next : Next) (n : ℕ) (picks : List Pick) (events : List Event) (event : Event) (pick : Pick) → IsMadeByPicks next n picks events
+    → AreMorePicked next n picks events pick event → IsNeeded n events event pick → IsMadeByPicks next n (noted picks (length events) pick) (events ++ event ∷ [])
 made_more next n picks events event First made m needed =
     let same = m.same refl made.few in
     record { run = same.run; along = same.along; needed = needed_same n [] events picks event made.needed made.few; few = few_more picks events event made.few }
@@ -63,14 +63,14 @@ made_more next n picks events event (Index index) made m needed =
     record { run = m.more.run; along = m.more.along; needed = needed_more n [] events picks event pick made.needed needed; few = few_after picks events event pick }
 
 -- what is kept after it
-pub picked_keeps : (next : Next) (n : ℕ) (picks : List Pick) (events : List Event) (kept : List (Option Call)) (state : State) (rank : ℕ) (call : Call) (pick : Pick) (reply : Reply) (event : Event)
-    → Lawful next → IsMade next n picks events → AreKept next n events kept → HasPicked next n events rank call pick reply
-    → picked_event n events rank call pick ≡ event → Knows n (events ++ event ∷ []) state
-    → Keeps next n (noted picks (length events) pick) (events ++ event ∷ []) (slice_set kept rank None) state
+pub picked_keeps : (next : Next) (n : ℕ) (picks : List Pick) (events : List Event) (kept : List (Option Call)) (state : MatchingState) (rank : ℕ) (call : Call) (pick : Pick) (reply : Reply) (event : Event)
+    → Lawful next → IsMadeByPicks next n picks events → AreWaitingCalls next n events kept → HasPicked next (moment_at n events rank) call pick reply
+    → picked_event n events rank call pick ≡ event → KnowsHistory n (events ++ event ∷ []) state
+    → KeepsHistory next n (noted picks (length events) pick) (events ++ event ∷ []) (slice_set kept rank None) state
 picked_keeps next n picks events kept state rank call pick reply event lawful made are has is knows =
     let one : Event = picked_event n events rank call pick in
-    let F : Event → Type 0 = λ e. Knows n (events ++ e ∷ []) state in
-    let G : Event → Type 0 = λ e. Keeps next n (noted picks (length events) pick) (events ++ e ∷ []) (slice_set kept rank None) state in
+    let F : Event → Type 0 = λ e. KnowsHistory n (events ++ e ∷ []) state in
+    let G : Event → Type 0 = λ e. KeepsHistory next n (noted picks (length events) pick) (events ++ e ∷ []) (slice_set kept rank None) state in
     let here : F one = subst F (sym is) knows in
     let run : IsPicked next n picks events = record { run = made.run; along = made.along } in
     let more = picks_go_on next n lawful picks events rank call pick run has.asked.below has.asked.asked has.offered (inl has.go) here.matcher.matched in
@@ -101,9 +101,9 @@ sender_offered n events me call sender at h free found =
     (both (looks call) (is_some (picked_choice events me call (Sender sender))) h (ap is_some found))
 
 -- a receive that takes the message of a sender, with what is written down of it
-pub post_picks : (next : Next) (n : ℕ) (picks : List Pick) (events : List Event) (rank : ℕ) (call : Call) (sender mate : ℕ) (written : Pick) → IsMade next n picks events
+pub post_picks : (next : Next) (n : ℕ) (picks : List Pick) (events : List Event) (rank : ℕ) (call : Call) (sender mate : ℕ) (written : Pick) → IsMadeByPicks next n picks events
     → IsAsked next n events rank call → is_post call ≡ true → bound_of events ≡ None → picked_choice events rank call (Sender sender) ≡ Some mate
-    → (has_pick n events rank call (Sender sender) ≡ true → IsWritten n events rank call (Sender sender) written) → HasPicked next n events rank call written Done
+    → (has_pick n events rank call (Sender sender) ≡ true → IsWritten n events rank call (Sender sender) written) → HasPicked next (moment_at n events rank) call written Done
 post_picks next n picks events rank (Post comm source tag room) sender mate written made asked post free found is =
     let call : Call = Post comm source tag room in
     let offered = sender_offered n events rank call sender mate refl free found in
@@ -126,10 +126,10 @@ pub peek_offered : (n : ℕ) (events : List Event) (rank : ℕ) (call : Call) (s
 peek_offered n events rank (Peek comm source tag wait) sender at peek free found = sender_offered n events rank (Peek comm source tag wait) sender at refl free found
 peek_offered n events rank call sender at peek free found = absurd (cc)
 
-pub peek_picks : (next : Next) (n : ℕ) (picks : List Pick) (events : List Event) (rank : ℕ) (call : Call) (sender at : ℕ) (written : Pick) (reply : Reply) → IsMade next n picks events
+pub peek_picks : (next : Next) (n : ℕ) (picks : List Pick) (events : List Event) (rank : ℕ) (call : Call) (sender at : ℕ) (written : Pick) (reply : Reply) → IsMadeByPicks next n picks events
     → IsAsked next n events rank call → is_peek call ≡ true → bound_of events ≡ None → picked_choice events rank call (Sender sender) ≡ Some at
     → reply ≡ peeked_at events (name_at events at)
-    → (has_pick n events rank call (Sender sender) ≡ true → IsWritten n events rank call (Sender sender) written) → HasPicked next n events rank call written reply
+    → (has_pick n events rank call (Sender sender) ≡ true → IsWritten n events rank call (Sender sender) written) → HasPicked next (moment_at n events rank) call written reply
 peek_picks next n picks events rank (Peek comm source tag wait) sender at written reply made asked peek free found same is =
     let call : Call = Peek comm source tag wait in
     let offered = sender_offered n events rank call sender at refl free found in
@@ -139,7 +139,7 @@ peek_picks next n picks events rank (Peek comm source tag wait) sender at writte
     has_written next n picks events rank call (Sender sender) written reply made asked (sender_apart sender) offered reply_is (is offered)
 peek_picks next n picks events rank call sender at written reply made asked peek free found same is = absurd (cc)
 
-pub idle_picked : (next : Next) (n : ℕ) (events : List Event) (rank : ℕ) (call : Call) (pick : Pick) (reply : Reply) → HasPicked next n events rank call pick reply
+pub idle_picked : (next : Next) (n : ℕ) (events : List Event) (rank : ℕ) (call : Call) (pick : Pick) (reply : Reply) → HasPicked next (moment_at n events rank) call pick reply
     → is_start (call, reply) ≡ false → picked_event n events rank call pick ≡ event_with rank call reply None
 idle_picked next n events rank call pick reply has idle =
     let none : picked_mate events rank call reply pick ≡ None = rw idle refl in
@@ -182,7 +182,7 @@ stage_with events waiting = record { events = events; waiting = waiting }
 
 turned : {P : Type 0} (program : P) (next : Next) (n : ℕ) (events : List Event) (kept : List (Option Call)) (waiting : List ℕ) (rank : ℕ) (call : Call) (pick : Pick) → pick ≢ First
     → length kept ≡ n → rank < n → Waiting waiting kept
-    → StandsAt (after_pick (machine_with program n events kept) rank call pick (picked_of n events rank call pick))
+    → IsAtStage (after_pick (machine_with program n events kept) rank call pick (picked_of n events rank call pick))
     (turn_with next n (stage_with events waiting) rank pick (Some call))
 turned program next n events kept waiting rank call First apart many below w = absurd (apart refl)
 turned program next n events kept waiting rank call (Sender sender) apart many below w =
@@ -201,16 +201,16 @@ turned program next n events kept waiting rank call (Index index) apart many bel
 pub picked_stands : {P : Type 0} (next : Next) (machine later : MachineState P) (rank : ℕ) (call : Call) (pick : Pick) (answer : Option Reply) (stage : Stage) → pick ≢ First
     → length machine.kept ≡ machine.ranks → rank < machine.ranks → call_after next machine.ranks machine.events rank ≡ Some call
     → answer ≡ picked_of machine.ranks machine.events rank call pick → later ≡ after_pick machine rank call pick answer
-    → StandsAt machine stage → StandsAt later (take_turn next machine.ranks stage (record { rank = rank; pick = pick }))
+    → IsAtStage machine stage → IsAtStage later (take_turn next machine.ranks stage (record { rank = rank; pick = pick }))
 picked_stands {P} next machine later rank call pick answer stage apart many below asked is after s =
     let n : ℕ = machine.ranks in
     let events : List Event = machine.events in
     let turn : Turn = record { rank = rank; pick = pick } in
     let here : stage_with stage.events stage.waiting ≡ stage_with events stage.waiting = ap (λ e. stage_with e stage.waiting) s.events in
     let M : MachineState P = after_pick machine rank call pick (picked_of n events rank call pick) in
-    let F : Stage → Type 0 = λ x. StandsAt M (take_turn next n x turn) in
-    let G : Option Call → Type 0 = λ c. StandsAt M (turn_with next n (stage_with events stage.waiting) rank pick c) in
-    let H : MachineState P → Type 0 = λ m. StandsAt m (take_turn next n stage turn) in
+    let F : Stage → Type 0 = λ x. IsAtStage M (take_turn next n x turn) in
+    let G : Option Call → Type 0 = λ c. IsAtStage M (turn_with next n (stage_with events stage.waiting) rank pick c) in
+    let H : MachineState P → Type 0 = λ m. IsAtStage m (take_turn next n stage turn) in
     let one : F (stage_with events stage.waiting) =
     subst G (sym asked) (turned machine.program next n events machine.kept stage.waiting rank call pick apart many below (record { same = s.waiting })) in
     subst H (sym (after ∙ ap (λ a. after_pick machine rank call pick a) is)) (subst F (sym here) one)

@@ -11,7 +11,7 @@ use Rattle.run_model.specs.Lists.{world}
 use Rattle.run_model.specs.Serial.{Stage, attempt, attempt_with, call_after, is_stuck, others_wait}
 use Rattle.run_model.specs.Views.{Next, view_of}
 use Rattle.run_model.proofs.Views.{test_cases}
-use Rattle.mpi_machine.specs.Turns.{MachineState, StandsAt, after_answer, kept_of, stage_of, answer_of, waiting_from}
+use Rattle.mpi_machine.specs.Turns.{MachineState, IsAtStage, after_answer, waiting_call, stage_of, attempt_answer, waiting_from}
 use Rattle.mpi_machine.proofs.WaitingRanks.{kept_waits}
 
 all_same : (f g : ℕ → Bool) (xs : List ℕ) → ((m : ℕ) → f m ≡ g m) → list_all f xs ≡ list_all g xs
@@ -42,7 +42,7 @@ left_other rank other (x ∷ xs) apart =
     ]
 
 pub record Waiting (waiting : List ℕ) (kept : List (Option Call)) : Type 0 where
-  pub same : (rank : ℕ) → is_member waiting rank ≡ is_some (kept_of kept rank)
+  pub same : (rank : ℕ) → is_member waiting rank ≡ is_some (waiting_call kept rank)
 
 pub answered_waiting : (waiting : List ℕ) (kept : List (Option Call)) (rank : ℕ) → rank < length kept → Waiting waiting kept
     → Waiting (filter (λ other. not (other == rank)) waiting) (slice_set kept rank None)
@@ -51,7 +51,7 @@ answered_waiting waiting kept rank below w =
       same = λ other. elim (test_cases (rank == other)) [
         | inl h ↦ (
             let same : rank ≡ other = eqb-true rank other h in
-            let F : ℕ → Type 0 = λ r. is_member (filter (λ m. not (m == rank)) waiting) r ≡ is_some (kept_of (slice_set kept rank None) r) in
+            let F : ℕ → Type 0 = λ r. is_member (filter (λ m. not (m == rank)) waiting) r ≡ is_some (waiting_call (slice_set kept rank None) r) in
             let own : F rank = left_same rank waiting ∙ sym (ap (λ (c : Option Call). is_some c) (get_or-set_same kept rank None None below)) in
             subst F same own)
         | inr h ↦ (
@@ -67,7 +67,7 @@ kept_waiting waiting kept rank call below w =
       same = λ other. elim (test_cases (rank == other)) [
         | inl h ↦ (
             let same : rank ≡ other = eqb-true rank other h in
-            let F : ℕ → Type 0 = λ r. is_member (rank ∷ waiting) r ≡ is_some (kept_of (slice_set kept rank (Some call)) r) in
+            let F : ℕ → Type 0 = λ r. is_member (rank ∷ waiting) r ≡ is_some (waiting_call (slice_set kept rank (Some call)) r) in
             let own : F rank = rw (eq-eqb rank rank refl) (sym (ap (λ (c : Option Call). is_some c) (get_or-set_same kept rank (Some call) None below))) in
             subst F same own)
         | inr h ↦ (
@@ -84,7 +84,7 @@ stage_with events waiting = record { events = events; waiting = waiting }
 
 attempted : {P : Type 0} (program : P) (next : Next) (n : ℕ) (events : List Event) (kept : List (Option Call)) (waiting : List ℕ) (rank : ℕ) (call : Call)
     → length kept ≡ n → rank < n → Waiting waiting kept
-    → StandsAt (after_answer (machine_with program n events kept) rank call (answer_of next n events kept rank call))
+    → IsAtStage (after_answer (machine_with program n events kept) rank call (attempt_answer next n events kept rank call))
     (attempt_with next n (stage_with events waiting) rank (Some call))
 attempted program next n events kept waiting rank call many below w =
     let go : Bool = can_go n events rank (view_of events rank) call in
@@ -106,12 +106,12 @@ attempted program next n events kept waiting rank call many below w =
 
 pub stands_on : {P : Type 0} (program : P) (next : Next) (n : ℕ) (events : List Event) (kept : List (Option Call)) (rank : ℕ) (call : Call) (stage : Stage)
     → length kept ≡ n → rank < n → call_after next n events rank ≡ Some call
-    → StandsAt (machine_with program n events kept) stage
-    → StandsAt (after_answer (machine_with program n events kept) rank call (answer_of next n events kept rank call)) (attempt next n stage rank)
+    → IsAtStage (machine_with program n events kept) stage
+    → IsAtStage (after_answer (machine_with program n events kept) rank call (attempt_answer next n events kept rank call)) (attempt next n stage rank)
 stands_on program next n events kept rank call stage many below asked s =
     let here : stage_with stage.events stage.waiting ≡ stage_with events stage.waiting = ap (λ e. stage_with e stage.waiting) s.events in
-    let F : Stage → Type 0 = λ x. StandsAt (after_answer (machine_with program n events kept) rank call (answer_of next n events kept rank call)) (attempt next n x rank) in
-    let G : Option Call → Type 0 = λ c. StandsAt (after_answer (machine_with program n events kept) rank call (answer_of next n events kept rank call)) (attempt_with next n (stage_with events stage.waiting) rank c) in
+    let F : Stage → Type 0 = λ x. IsAtStage (after_answer (machine_with program n events kept) rank call (attempt_answer next n events kept rank call)) (attempt next n x rank) in
+    let G : Option Call → Type 0 = λ c. IsAtStage (after_answer (machine_with program n events kept) rank call (attempt_answer next n events kept rank call)) (attempt_with next n (stage_with events stage.waiting) rank c) in
     let one : F (stage_with events stage.waiting) =
     subst G (sym asked) (attempted program next n events kept stage.waiting rank call many below (record { same = s.waiting })) in
     subst F (sym here) one

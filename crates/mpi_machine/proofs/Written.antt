@@ -18,14 +18,14 @@ use Rattle.mpi_call.specs.declared.reply.Reply.TheVariants.{Done, Peeked, Stoppe
 use Rattle.mpi_call.specs.Members.{is_member}
 use Rattle.match_core.proofs.Positions.{name_at-one}
 use Rattle.run_model.specs.declared.event.Event.{Event}
-use Rattle.run_model.specs.Allowed.{first_long, flags_of, holds, is_long, taken_reply, true_places}
+use Rattle.run_model.specs.Allowed.{first_long, flags_of, mode_holds, is_long, taken_reply, true_places}
 use Rattle.run_model.specs.Choice.{choice}
 use Rattle.run_model.specs.Chosen.{IsChosenEvent, got_of, halt_or, held_reply, items_at, peek_reply, peeked_at, peeked_in}
 use Rattle.run_model.specs.Due.{bad_halt, bad_request, due, halted, is_full, or_else}
 use Rattle.run_model.specs.Readiness.{is_ready}
 use Rattle.run_model.specs.Pairs.{Name, name_at, named}
 use Rattle.run_model.specs.Shape.{is_test}
-use Rattle.run_model.specs.Views.{Next, View, is_start, start_at, taken_of, view_of}
+use Rattle.run_model.specs.Views.{Next, View, is_start, moment_at, moment_of, start_at, taken_of, view_of}
 use Rattle.run_model.proofs.Views.{test_cases}
 use Rattle.picked_runs.specs.declared.turn.Pick.{Pick}
 use Rattle.picked_runs.specs.declared.turn.Pick.TheVariants.{First, Index, Sender}
@@ -34,9 +34,9 @@ use Rattle.picked_runs.specs.Picks.{call_from, completes_one, has_pick, is_ready
 use Rattle.picked_runs.proofs.Allowing.{picks_can_go}
 use Rattle.picked_runs.proofs.Firsts.{first_event}
 use Rattle.picked_runs.proofs.Probes.{picked_found}
-use Rattle.requests.specs.Histories.{Knows}
-use Rattle.requests.specs.States.{State}
-use Rattle.mpi_machine.specs.Made.{IsMade, IsNeeded}
+use Rattle.requests.specs.Histories.{KnowsHistory}
+use Rattle.requests.specs.States.{MatchingState}
+use Rattle.mpi_machine.specs.Made.{IsMadeByPicks, IsNeeded}
 use Rattle.mpi_machine.specs.Picking.{HasPicked, IsWritten, after_pick, picked_of}
 use Rattle.mpi_machine.specs.Turns.{IsAsked, MachineState}
 use Rattle.mpi_machine.specs.Waits.{ready_in}
@@ -44,9 +44,9 @@ use Rattle.mpi_machine.proofs.Growing.{not_true}
 use Rattle.mpi_machine.proofs.Waiting.{before_same}
 
 -- a call that can go with a pick can go with what is written down of it
-pub has_written : (next : Next) (n : ℕ) (picks : List Pick) (events : List Event) (rank : ℕ) (call : Call) (pick written : Pick) (reply : Reply) → IsMade next n picks events
+pub has_written : (next : Next) (n : ℕ) (picks : List Pick) (events : List Event) (rank : ℕ) (call : Call) (pick written : Pick) (reply : Reply) → IsMadeByPicks next n picks events
     → IsAsked next n events rank call → pick ≢ First → has_pick n events rank call pick ≡ true → picked_reply n events rank call pick ≡ reply
-    → IsWritten n events rank call pick written → HasPicked next n events rank call written reply
+    → IsWritten n events rank call pick written → HasPicked next (moment_at n events rank) call written reply
 has_written next n picks events rank call pick written reply made asked apart offered reply_is is =
     let run : IsPicked next n picks events = record { run = made.run; along = made.along } in
     let same : picked_event n events rank call pick ≡ picked_event n events rank call written = is.picked.event_is in
@@ -214,14 +214,14 @@ other_message n events rank call narrowed sender own picked is one two other off
 -- 2. which start a completion of one start completes
 
 same_index : (n : ℕ) (events : List Event) (rank : ℕ) (starts : List ℕ) (mode : TakeMode) (index : ℕ)
-    → picked_places mode (flags_of n events rank (view_of events rank) starts) First ≡ picked_places mode (flags_of n events rank (view_of events rank) starts) (Index index)
+    → picked_places mode (flags_of (moment_at n events rank) starts) First ≡ picked_places mode (flags_of (moment_at n events rank) starts) (Index index)
     → picked_event n events rank (Take starts mode) First ≡ picked_event n events rank (Take starts mode) (Index index)
 same_index n events rank starts mode index same =
     let own : View = view_of events rank in
-    let flags : List Bool = flags_of n events rank own starts in
+    let flags : List Bool = flags_of (moment_of n events rank own) starts in
     let call : Call = Take starts mode in
-    let R : List Item → Reply = λ items. if holds mode flags then taken_reply rank (first_long own starts items) items else held_reply (is_test mode) in
-    let E : List ℕ → Event = λ places. record { rank = rank; call = call; reply = halt_or (due n events rank own call) (R (items_at n events rank own starts places)); mate = None } in
+    let R : List Item → Reply = λ items. if mode_holds mode flags then taken_reply rank (first_long own starts items) items else held_reply (is_test mode) in
+    let E : List ℕ → Event = λ places. record { rank = rank; call = call; reply = halt_or (due n events rank own call) (R (items_at (moment_of n events rank own) starts places)); mate = None } in
     ap E same
 
 -- the least place whose flag is true
@@ -283,11 +283,11 @@ apart_starts own earlier (x ∷ starts) (suc place) (suc index) good less within
 
 -- two places have two replies
 abbrev reply_at : ℕ → List Event → ℕ → View → List ℕ → ℕ → Reply
-reply_at n events rank own starts place = taken_reply rank (first_long own starts (items_at n events rank own starts (place ∷ []))) (items_at n events rank own starts (place ∷ []))
+reply_at n events rank own starts place = taken_reply rank (first_long own starts (items_at (moment_of n events rank own) starts (place ∷ []))) (items_at (moment_of n events rank own) starts (place ∷ []))
 
 abbrev item_at : ℕ → List Event → ℕ → View → List ℕ → ℕ → Item
 item_at n events rank own starts place =
-    record { index = place; got = got_of n events rank own (slice_index starts place) (start_at own (slice_index starts place)) }
+    record { index = place; got = got_of (moment_of n events rank own) (slice_index starts place) (start_at own (slice_index starts place)) }
 
 abbrev reply_by : ℕ → ℕ → Item → Bool → Reply
 reply_by rank start item long = taken_reply rank (if long then Some start else None) (item ∷ [])
@@ -303,7 +303,7 @@ apart_replies : (n : ℕ) (events : List Event) (rank : ℕ) (own : View) (start
     → reply_at n events rank own starts index ≡ reply_at n events rank own starts place → ⊥
 apart_replies n events rank own starts place index good less within same =
     let s : ℕ → ℕ = λ i. slice_index starts i in
-    let long : ℕ → Bool = λ i. is_long (start_at own (s i)) (got_of n events rank own (s i) (start_at own (s i))) in
+    let long : ℕ → Bool = λ i. is_long (start_at own (s i)) (got_of (moment_of n events rank own) (s i) (start_at own (s i))) in
     two_replies rank (s index) (s place) (item_at n events rank own starts index) (item_at n events rank own starts place) (long index) (long place)
     (λ e. apart_starts own [] starts place index good less within (sym e)) (λ e. absurd (omega (arith, less, e))) same
 
@@ -322,7 +322,7 @@ ready_any (false ∷ flags) (suc index) h = ready_any flags index h
 record TakesOne (flags : List Bool) (mode : TakeMode) (index : ℕ) : Type 0 where
   picked : picked_places mode flags (Index index) ≡ index ∷ []
   own : picked_places mode flags First ≡ take 1 (true_places 0 flags)
-  held : holds mode flags ≡ list_any (λ x. x) flags
+  held : mode_holds mode flags ≡ list_any (λ x. x) flags
 
 takes_one : (flags : List Bool) (starts : List ℕ) (mode : TakeMode) (index : ℕ) → completes_one (Take starts mode) ≡ true → TakesOne flags mode index
 takes_one flags starts AnyOne index h = record { picked = refl; own = refl; held = refl }
@@ -342,15 +342,15 @@ due_good None false me None h = refl
 record HasIndex (n : ℕ) (events : List Event) (rank : ℕ) (starts : List ℕ) (mode : TakeMode) (index : ℕ) : Type 0 where
   none : due n events rank (view_of events rank) (Take starts mode) ≡ None
   good : bad_request (view_of events rank) [] starts ≡ None
-  one : TakesOne (flags_of n events rank (view_of events rank) starts) mode index
-  ready : is_ready_at (flags_of n events rank (view_of events rank) starts) index ≡ true
+  one : TakesOne (flags_of (moment_at n events rank) starts) mode index
+  ready : is_ready_at (flags_of (moment_at n events rank) starts) index ≡ true
 
 has_index : (n : ℕ) (events : List Event) (rank : ℕ) (starts : List ℕ) (mode : TakeMode) (index : ℕ) → has_pick n events rank (Take starts mode) (Index index) ≡ true
     → HasIndex n events rank starts mode index
 has_index n events rank starts mode index offered =
     let own : View = view_of events rank in
     let call : Call = Take starts mode in
-    let flags : List Bool = flags_of n events rank own starts in
+    let flags : List Bool = flags_of (moment_of n events rank own) starts in
     let d = none_due (due n events rank own call) (completes_one call && is_ready_at flags index) offered in
     let parts = and_parts (completes_one call) (is_ready_at flags index) d.1 in
     record {
@@ -362,32 +362,32 @@ has_index n events rank starts mode index offered =
 
 -- what is written down of an index, by whether an earlier start is ready
 index_none : (n : ℕ) (events : List Event) (rank : ℕ) (starts : List ℕ) (mode : TakeMode) (index : ℕ) → has_pick n events rank (Take starts mode) (Index index) ≡ true
-    → list_any (λ x. x) (take index (flags_of n events rank (view_of events rank) starts)) ≡ false → IsWritten n events rank (Take starts mode) (Index index) First
+    → list_any (λ x. x) (take index (flags_of (moment_at n events rank) starts)) ≡ false → IsWritten n events rank (Take starts mode) (Index index) First
 index_none n events rank starts mode index offered none =
-    let flags : List Bool = flags_of n events rank (view_of events rank) starts in
+    let flags : List Bool = flags_of (moment_at n events rank) starts in
     let has = has_index n events rank starts mode index offered in
     let e : 0 + index ≡ index = omega arith in
     let first : take 1 (true_places 0 flags) ≡ index ∷ [] = first_place flags 0 index has.ready none ∙ ap (λ (x : ℕ). x ∷ []) e in
     written_none n events rank (Take starts mode) (Index index) (same_index n events rank starts mode index (has.one.own ∙ (first ∙ sym has.one.picked)))
 
 index_pick : (n : ℕ) (events : List Event) (rank : ℕ) (starts : List ℕ) (mode : TakeMode) (index : ℕ) → has_pick n events rank (Take starts mode) (Index index) ≡ true
-    → list_any (λ x. x) (take index (flags_of n events rank (view_of events rank) starts)) ≡ true → IsWritten n events rank (Take starts mode) (Index index) (Index index)
+    → list_any (λ x. x) (take index (flags_of (moment_at n events rank) starts)) ≡ true → IsWritten n events rank (Take starts mode) (Index index) (Index index)
 index_pick n events rank starts mode index offered some =
     let own : View = view_of events rank in
     let call : Call = Take starts mode in
-    let flags : List Bool = flags_of n events rank own starts in
-    let ready : ℕ → Bool = λ k. is_ready n events rank own k (start_at own k) in
+    let flags : List Bool = flags_of (moment_of n events rank own) starts in
+    let ready : ℕ → Bool = λ k. is_ready (moment_of n events rank own) k (start_at own k) in
     let has = has_index n events rank starts mode index offered in
     let earlier = earlier_place flags 0 index some in
     let e : 0 + earlier.0 ≡ earlier.0 = omega arith in
     let first : picked_places mode flags First ≡ earlier.0 ∷ [] = has.one.own ∙ (earlier.1 ∙ ap (λ (x : ℕ). x ∷ []) e) in
     let within : index < length starts = (let many : length flags ≡ length starts = length-map starts ready in let less = ready_within flags index has.ready in omega (arith, many, less)) in
     let R : Option Halt → Bool → List ℕ → Reply = λ halt held places. (
-    let items : List Item = items_at n events rank own starts places in
+    let items : List Item = items_at (moment_of n events rank own) starts places in
     halt_or halt (if held then taken_reply rank (first_long own starts items) items else held_reply (is_test mode))) in
     let D : Option Halt = due n events rank own call in
-    let held : holds mode flags ≡ true = has.one.held ∙ ready_any flags index has.ready in
-    let clear : (places : List ℕ) → R D (holds mode flags) places ≡ R None true places = λ places. ap (λ halt. R halt (holds mode flags) places) has.none ∙ ap (λ h. R None h places) held in
+    let held : mode_holds mode flags ≡ true = has.one.held ∙ ready_any flags index has.ready in
+    let clear : (places : List ℕ) → R D (mode_holds mode flags) places ≡ R None true places = λ places. ap (λ halt. R halt (mode_holds mode flags) places) has.none ∙ ap (λ h. R None h places) held in
     let made : picked_reply n events rank call (Index index) ≡ reply_at n events rank own starts index =
     clear (picked_places mode flags (Index index)) ∙ ap (R None true) has.one.picked in
     let chosen : picked_reply n events rank call First ≡ reply_at n events rank own starts earlier.0 = clear (picked_places mode flags First) ∙ ap (R None true) first in
@@ -400,7 +400,7 @@ not_false true h = refl
 not_false false h = absurd (cc)
 
 -- which is told from what is known of the starts
-pub no_earlier : (n : ℕ) (events : List Event) (state : State) (rank : ℕ) (starts listed : List ℕ) (mode : TakeMode) (index : ℕ) (none : Bool) → Knows n events state → listed ≡ starts
+pub no_earlier : (n : ℕ) (events : List Event) (state : MatchingState) (rank : ℕ) (starts listed : List ℕ) (mode : TakeMode) (index : ℕ) (none : Bool) → KnowsHistory n events state → listed ≡ starts
     → none ≡ not (list_any (λ k. ready_in state rank k) (take index listed)) → none ≡ true → has_pick n events rank (Take starts mode) (Index index) ≡ true
     → IsWritten n events rank (Take starts mode) (Index index) First
 no_earlier n events state rank starts listed mode index none knows same is told offered =
@@ -409,7 +409,7 @@ no_earlier n events state rank starts listed mode index none knows same is told 
     index_none n events rank starts mode index offered
     (sym (before_same n events state rank starts index knows (has_index n events rank starts mode index offered).good) ∙ quiet)
 
-pub some_earlier : (n : ℕ) (events : List Event) (state : State) (rank : ℕ) (starts listed : List ℕ) (mode : TakeMode) (index : ℕ) (none : Bool) → Knows n events state → listed ≡ starts
+pub some_earlier : (n : ℕ) (events : List Event) (state : MatchingState) (rank : ℕ) (starts listed : List ℕ) (mode : TakeMode) (index : ℕ) (none : Bool) → KnowsHistory n events state → listed ≡ starts
     → none ≡ not (list_any (λ k. ready_in state rank k) (take index listed)) → none ≡ false → has_pick n events rank (Take starts mode) (Index index) ≡ true
     → IsWritten n events rank (Take starts mode) (Index index) (Index index)
 some_earlier n events state rank starts listed mode index none knows same is told offered =

@@ -23,15 +23,15 @@ ghost use Rattle.picked_runs.specs.Picks.{has_pick, looks};
 ghost use Rattle.run_model.specs.Choice.{choice};
 ghost use Rattle.mpi_machine.specs.Made.{noted, AreNeeded, IsPlain};
 ghost use Rattle.mpi_machine.specs.Picking.{after_pick, picked_of, HasPicked, IsWritten};
-ghost use Rattle.run_model.specs.Views.{is_start, replies_in, taken_of, view_of};
-ghost use Rattle.requests.specs.Histories.{took_event, Knows};
-ghost use Rattle.requests.specs.States.{with_rows, State};
+ghost use Rattle.run_model.specs.Views.{is_start, moment_at, replies_in, taken_of, view_of};
+ghost use Rattle.requests.specs.Histories.{took_event, KnowsHistory};
+ghost use Rattle.requests.specs.States.{with_rows, MatchingState};
 ghost use Rattle.requests.specs.Taking.{rows_after, takes_one, AreHandedOut};
 ghost use Rattle.requests.specs.declared.requests.TakeAnswer.TheVariants.{Took as TookItems};
-ghost use Rattle.mpi_machine.specs.Courses.{bound_of, has_ended, HasRoom};
-ghost use Rattle.mpi_machine.specs.Turns.{after_answer, last_reply, answer_of, waits_again, stage_of, stands, takes_none, HasReply, IsAsked, IsHeldBack, IsStartAt, StandsAt};
+ghost use Rattle.mpi_machine.specs.Courses.{bound_of, has_ended, HasRoomForEvent};
+ghost use Rattle.mpi_machine.specs.Turns.{after_answer, last_reply, attempt_answer, waits_again, stage_of, is_blocked_or_ended, takes_no_memory, HasReply, IsAsked, IsHeldBack, IsStartAt, IsAtStage};
 ghost use Rattle.mpi_machine.specs.declared.answer.Answer.TheVariants.{Replied, Wait};
-ghost use Rattle.mpi_machine.specs.Waits.{waits, AreKept};
+ghost use Rattle.mpi_machine.specs.Waits.{waits, AreWaitingCalls};
 
 use crate::answer::Answer;
 use crate::course::Course;
@@ -66,13 +66,13 @@ pub struct Machine<'a, P: Program> {
 
 impl<'a, P: Program> Model for Machine<'a, P> {
     ghost use Rattle.mpi_machine.specs.Turns.{MachineState};
-    ghost use Rattle.mpi_machine.specs.Waits.{Keeps};
+    ghost use Rattle.mpi_machine.specs.Waits.{KeepsHistory};
 
     ghost Value = { MachineState P };
 
     ghost view = { λ m. record { program = m.program.now; ranks = m.course.ranks; events = m.course.events; kept = m.course.kept } };
 
-    ghost invariant = { λ m. Keeps (P.next m.program.now) m.course.ranks m.picks.written m.course.events m.course.kept m.requests };
+    ghost invariant = { λ m. KeepsHistory (P.next m.program.now) m.course.ranks m.picks.written m.course.events m.course.kept m.requests };
 }
 
 impl<'a, P: Program> Machine<'a, P> {
@@ -94,18 +94,18 @@ impl<'a, P: Program> Machine<'a, P> {
     pub fn attempt(&mut self, rank: u8, call: Call) -> Result<Answer, AllocError>
         requires rank { rank < self.old.ranks }
         requires next { P.next self.old.program self.old.ranks rank (replies_in (view_of self.old.events rank)) ≡ Some call }
-        ensures answer { IfOk result (λ answer. answer ≡ answer_of (P.next self.old.program) self.old.ranks self.old.events self.old.kept rank call) }
+        ensures answer { IfOk result (λ answer. answer ≡ attempt_answer (P.next self.old.program) self.old.ranks self.old.events self.old.kept rank call) }
         ensures after { IfOk result (λ answer. self.new ≡ after_answer self.old rank call answer) }
         ensures err { OnErr result (self.new ≡ self.old) }
 
         // A rank's last reply takes no memory.
-        ensures sure { takes_none self.old.events call (chosen_reply self.old.ranks self.old.events rank call) ≡ true → IsOk result }
+        ensures sure { takes_no_memory self.old.events call (chosen_reply self.old.ranks self.old.events rank call) ≡ true → IsOk result }
 
         // The reply may be given to the rank.
         ensures shape { IfOk result (λ answer. (reply : Reply) → answer ≡ Replied reply → MayGive (P.next self.old.program) self.old.ranks rank (replies_in (view_of self.old.events rank)) reply) }
 
         // Attempts one after the other make the run that the order of ranks fixes.
-        ensures serial { OnOk result ((stage : Stage) → StandsAt self.old stage → StandsAt self.new (attempt (P.next self.old.program) self.old.ranks stage rank)) }
+        ensures serial { OnOk result ((stage : Stage) → IsAtStage self.old stage → IsAtStage self.new (attempt (P.next self.old.program) self.old.ranks stage rank)) }
     {
         self.is_run();
         let turn = self.turn(rank, call)?;
@@ -131,7 +131,7 @@ impl<'a, P: Program> Machine<'a, P> {
         ensures shape { IfOk result (λ answer. (reply : Reply) → answer ≡ Some reply → MayGive (P.next self.old.program) self.old.ranks rank (replies_in (view_of self.old.events rank)) reply) }
 
         // It is the rank's turn with this pick.
-        ensures serial { OnOk result ((stage : Stage) → StandsAt self.old stage → StandsAt self.new (take_turn (P.next self.old.program) self.old.ranks stage (record { rank = rank; pick = Sender sender }))) }
+        ensures serial { OnOk result ((stage : Stage) → IsAtStage self.old stage → IsAtStage self.new (take_turn (P.next self.old.program) self.old.ranks stage (record { rank = rank; pick = Sender sender }))) }
     {
         self.is_run();
         let answer = self.from(rank, call, sender)?;
@@ -257,7 +257,7 @@ impl<'a, P: Program> Machine<'a, P> {
         ensures shape { IfOk result (λ answer. (reply : Reply) → answer ≡ Some reply → MayGive (P.next self.old.program) self.old.ranks rank (replies_in (view_of self.old.events rank)) reply) }
 
         // It is the rank's turn with this pick.
-        ensures serial { OnOk result ((stage : Stage) → StandsAt self.old stage → StandsAt self.new (take_turn (P.next self.old.program) self.old.ranks stage (record { rank = rank; pick = Index index }))) }
+        ensures serial { OnOk result ((stage : Stage) → IsAtStage self.old stage → IsAtStage self.new (take_turn (P.next self.old.program) self.old.ranks stage (record { rank = rank; pick = Index index }))) }
     {
         self.is_run();
         let answer = self.at(rank, call, index)?;
@@ -355,7 +355,7 @@ impl<'a, P: Program> Machine<'a, P> {
         pick: Pick,
         reply: Reply,
     ) -> Result<Option<Reply>, AllocError>
-        requires reply { HasPicked (P.next self.old.program) self.old.ranks self.old.events rank call pick reply }
+        requires reply { HasPicked (P.next self.old.program) (moment_at self.old.ranks self.old.events rank) call pick reply }
         requires bound { bound_of self.old.events ≡ None }
         requires more { ends (call, reply) ≡ false }
         requires no_start { is_start (call, reply) ≡ false }
@@ -387,7 +387,7 @@ impl<'a, P: Program> Machine<'a, P> {
         ensures same { self.new ≡ self.old }
 
         // So the attempt need not be made.
-        ensures serial { result ≡ true → (stage : Stage) → StandsAt self.old stage → StandsAt self.new (attempt (P.next self.old.program) self.old.ranks stage rank) }
+        ensures serial { result ≡ true → (stage : Stage) → IsAtStage self.old stage → IsAtStage self.new (attempt (P.next self.old.program) self.old.ranks stage rank) }
     {
         self.is_run();
         if self.course.bound().is_some() || self.course.kept(rank).is_none() {
@@ -401,7 +401,7 @@ impl<'a, P: Program> Machine<'a, P> {
     fn is_run(&self)
         ensures run { IsRun (P.next self.now.program) self.now.ranks self.now.events }
         ensures kept { length self.now.kept ≡ self.now.ranks }
-        ensures waiting { AreKept (P.next self.now.program) self.now.ranks self.now.events self.now.kept }
+        ensures waiting { AreWaitingCalls (P.next self.now.program) self.now.ranks self.now.events self.now.kept }
     {
         let _ = &self.program;
     }
@@ -409,10 +409,10 @@ impl<'a, P: Program> Machine<'a, P> {
     /// The attempt.
     fn turn(&mut self, rank: u8, call: Call) -> Result<Answer, AllocError>
         requires asked { IsAsked (P.next self.old.program) self.old.ranks self.old.events rank call }
-        ensures answer { IfOk result (λ answer. answer ≡ answer_of (P.next self.old.program) self.old.ranks self.old.events self.old.kept rank call) }
+        ensures answer { IfOk result (λ answer. answer ≡ attempt_answer (P.next self.old.program) self.old.ranks self.old.events self.old.kept rank call) }
         ensures after { IfOk result (λ answer. self.new ≡ after_answer self.old rank call answer) }
         ensures err { OnErr result (self.new ≡ self.old) }
-        ensures sure { takes_none self.old.events call (chosen_reply self.old.ranks self.old.events rank call) ≡ true → IsOk result }
+        ensures sure { takes_no_memory self.old.events call (chosen_reply self.old.ranks self.old.events rank call) ≡ true → IsOk result }
     {
         if let Some(halt) = self.course.bound() {
             return Ok(self.last(rank, call, Some(halt)));
@@ -438,9 +438,9 @@ impl<'a, P: Program> Machine<'a, P> {
 
     /// The last reply to a rank: a halt, or Done to its End. Takes no memory.
     fn last(&mut self, rank: u8, call: Call, halt: Option<Halt>) -> Answer
-        requires reply { HasReply (P.next self.old.program) self.old.ranks self.old.events self.old.kept rank call (last_reply halt) }
+        requires reply { HasReply (P.next self.old.program) (moment_at self.old.ranks self.old.events rank) self.old.kept call (last_reply halt) }
         requires last { ends (call, last_reply halt) ≡ true }
-        ensures answer { result ≡ answer_of (P.next self.old.program) self.old.ranks self.old.events self.old.kept rank call }
+        ensures answer { result ≡ attempt_answer (P.next self.old.program) self.old.ranks self.old.events self.old.kept rank call }
         ensures after { self.new ≡ after_answer self.old rank call result }
     {
         self.requests.knows_on();
@@ -455,12 +455,12 @@ impl<'a, P: Program> Machine<'a, P> {
 
     /// A reply that is not the rank's last, and changes nothing that is known of starts.
     fn answer(&mut self, rank: u8, call: Call, reply: Reply) -> Result<Answer, AllocError>
-        requires reply { HasReply (P.next self.old.program) self.old.ranks self.old.events self.old.kept rank call reply }
+        requires reply { HasReply (P.next self.old.program) (moment_at self.old.ranks self.old.events rank) self.old.kept call reply }
         requires bound { bound_of self.old.events ≡ None }
         requires more { ends (call, reply) ≡ false }
         requires no_start { is_start (call, reply) ≡ false }
         requires none_taken { taken_of ((call, reply) ∷ []) ≡ [] }
-        ensures answer { IfOk result (λ answer. answer ≡ answer_of (P.next self.old.program) self.old.ranks self.old.events self.old.kept rank call) }
+        ensures answer { IfOk result (λ answer. answer ≡ attempt_answer (P.next self.old.program) self.old.ranks self.old.events self.old.kept rank call) }
         ensures after { IfOk result (λ answer. self.new ≡ after_answer self.old rank call answer) }
         ensures err { OnErr result (self.new ≡ self.old) }
     {
@@ -481,10 +481,10 @@ impl<'a, P: Program> Machine<'a, P> {
         requires asked { IsAsked (P.next self.old.program) self.old.ranks self.old.events rank call }
         requires bound { bound_of self.old.events ≡ None }
         requires kind { is_starting call ≡ true }
-        ensures answer { IfOk result (λ answer. answer ≡ answer_of (P.next self.old.program) self.old.ranks self.old.events self.old.kept rank call) }
+        ensures answer { IfOk result (λ answer. answer ≡ attempt_answer (P.next self.old.program) self.old.ranks self.old.events self.old.kept rank call) }
         ensures after { IfOk result (λ answer. self.new ≡ after_answer self.old rank call answer) }
         ensures err { OnErr result (self.new ≡ self.old) }
-        ensures sure { takes_none self.old.events call (chosen_reply self.old.ranks self.old.events rank call) ≡ true → IsOk result }
+        ensures sure { takes_no_memory self.old.events call (chosen_reply self.old.ranks self.old.events rank call) ≡ true → IsOk result }
     {
         self.requests.knows_on();
         self.course.reserve()?;
@@ -509,10 +509,10 @@ impl<'a, P: Program> Machine<'a, P> {
     fn complete(&mut self, rank: u8, starts: Starts, mode: TakeMode) -> Result<Answer, AllocError>
         requires asked { IsAsked (P.next self.old.program) self.old.ranks self.old.events rank (Take starts mode) }
         requires bound { bound_of self.old.events ≡ None }
-        ensures answer { IfOk result (λ answer. answer ≡ answer_of (P.next self.old.program) self.old.ranks self.old.events self.old.kept rank (Take starts mode)) }
+        ensures answer { IfOk result (λ answer. answer ≡ attempt_answer (P.next self.old.program) self.old.ranks self.old.events self.old.kept rank (Take starts mode)) }
         ensures after { IfOk result (λ answer. self.new ≡ after_answer self.old rank (Take starts mode) answer) }
         ensures err { OnErr result (self.new ≡ self.old) }
-        ensures sure { takes_none self.old.events (Take starts mode) (chosen_reply self.old.ranks self.old.events rank (Take starts mode)) ≡ true → IsOk result }
+        ensures sure { takes_no_memory self.old.events (Take starts mode) (chosen_reply self.old.ranks self.old.events rank (Take starts mode)) ≡ true → IsOk result }
     {
         self.is_run();
         if self.stands(rank) {
@@ -525,10 +525,10 @@ impl<'a, P: Program> Machine<'a, P> {
     fn take(&mut self, rank: u8, starts: Starts, mode: TakeMode) -> Result<Answer, AllocError>
         requires asked { IsAsked (P.next self.old.program) self.old.ranks self.old.events rank (Take starts mode) }
         requires bound { bound_of self.old.events ≡ None }
-        ensures answer { IfOk result (λ answer. answer ≡ answer_of (P.next self.old.program) self.old.ranks self.old.events self.old.kept rank (Take starts mode)) }
+        ensures answer { IfOk result (λ answer. answer ≡ attempt_answer (P.next self.old.program) self.old.ranks self.old.events self.old.kept rank (Take starts mode)) }
         ensures after { IfOk result (λ answer. self.new ≡ after_answer self.old rank (Take starts mode) answer) }
         ensures err { OnErr result (self.new ≡ self.old) }
-        ensures sure { takes_none self.old.events (Take starts mode) (chosen_reply self.old.ranks self.old.events rank (Take starts mode)) ≡ true → IsOk result }
+        ensures sure { takes_no_memory self.old.events (Take starts mode) (chosen_reply self.old.ranks self.old.events rank (Take starts mode)) ≡ true → IsOk result }
     {
         match self.requests.take(rank, &starts, mode)? {
             TakeAnswer::Took(items) => {
@@ -565,10 +565,10 @@ impl<'a, P: Program> Machine<'a, P> {
     ) -> Result<Answer, AllocError>
         requires asked { IsAsked (P.next self.old.program) self.old.ranks self.old.events rank (Peek comm source tag wait) }
         requires bound { bound_of self.old.events ≡ None }
-        ensures answer { IfOk result (λ answer. answer ≡ answer_of (P.next self.old.program) self.old.ranks self.old.events self.old.kept rank (Peek comm source tag wait)) }
+        ensures answer { IfOk result (λ answer. answer ≡ attempt_answer (P.next self.old.program) self.old.ranks self.old.events self.old.kept rank (Peek comm source tag wait)) }
         ensures after { IfOk result (λ answer. self.new ≡ after_answer self.old rank (Peek comm source tag wait) answer) }
         ensures err { OnErr result (self.new ≡ self.old) }
-        ensures sure { takes_none self.old.events (Peek comm source tag wait) (chosen_reply self.old.ranks self.old.events rank (Peek comm source tag wait)) ≡ true → IsOk result }
+        ensures sure { takes_no_memory self.old.events (Peek comm source tag wait) (chosen_reply self.old.ranks self.old.events rank (Peek comm source tag wait)) ≡ true → IsOk result }
     {
         let call = Call::Peek {
             comm,
@@ -613,10 +613,10 @@ impl<'a, P: Program> Machine<'a, P> {
         requires asked { IsAsked (P.next self.old.program) self.old.ranks self.old.events rank call }
         requires bound { bound_of self.old.events ≡ None }
         requires held { IsHeldBack self.old.ranks self.old.events rank call test }
-        ensures answer { IfOk result (λ answer. answer ≡ answer_of (P.next self.old.program) self.old.ranks self.old.events self.old.kept rank call) }
+        ensures answer { IfOk result (λ answer. answer ≡ attempt_answer (P.next self.old.program) self.old.ranks self.old.events self.old.kept rank call) }
         ensures after { IfOk result (λ answer. self.new ≡ after_answer self.old rank call answer) }
         ensures err { OnErr result (self.new ≡ self.old) }
-        ensures sure { takes_none self.old.events call (chosen_reply self.old.ranks self.old.events rank call) ≡ true → IsOk result }
+        ensures sure { takes_no_memory self.old.events call (chosen_reply self.old.ranks self.old.events rank call) ≡ true → IsOk result }
     {
         if test {
             return self.answer(rank, call, Reply::NotYet);
@@ -655,7 +655,7 @@ impl<'a, P: Program> Machine<'a, P> {
     fn is_still(&mut self, other: u8, rank: u8) -> bool
         requires rank { other < self.old.ranks }
         requires bound { bound_of self.old.events ≡ None }
-        ensures value { result ≡ ((other == rank) || stands (P.next self.old.program) self.old.ranks self.old.events self.old.kept other) }
+        ensures value { result ≡ ((other == rank) || is_blocked_or_ended (P.next self.old.program) self.old.ranks self.old.events self.old.kept other) }
         ensures same { self.new ≡ self.old }
     {
         other == rank || self.stands(other)
@@ -665,7 +665,7 @@ impl<'a, P: Program> Machine<'a, P> {
     fn stands(&mut self, rank: u8) -> bool
         requires rank { rank < self.old.ranks }
         requires bound { bound_of self.old.events ≡ None }
-        ensures value { result ≡ stands (P.next self.old.program) self.old.ranks self.old.events self.old.kept rank }
+        ensures value { result ≡ is_blocked_or_ended (P.next self.old.program) self.old.ranks self.old.events self.old.kept rank }
         ensures same { self.new ≡ self.old }
     {
         if self.course.ended(rank) {
@@ -769,7 +769,7 @@ fn took(
     ensures known { OnOk result (requests.new ≡ requests.old) }
     ensures same_events { OnErr result (course.new.events ≡ course.old.events) }
     ensures same_kept { OnErr result (course.new.kept ≡ course.old.kept) }
-    ensures back { OnErr result ((before : State) → AreHandedOut before.table rank starts items → requests.old ≡ with_rows (rows_after before.table.rows rank starts (TookItems items)) before → requests.new ≡ before) }
+    ensures back { OnErr result ((before : MatchingState) → AreHandedOut before.table rank starts items → requests.old ≡ with_rows (rows_after before.table.rows rank starts (TookItems items)) before → requests.new ≡ before) }
 {
     let Ok(copied) = prepare(course, &items) else {
         requests.untake(rank, &starts, &items);

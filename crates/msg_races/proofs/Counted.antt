@@ -1,7 +1,7 @@
 -- No more positions stand below one than there are.
 use Rattle.std.proofs.Common.{◌≤◌, ℕ, List, [], ◌∷◌, arith, inl, inr, length, nat_lt}
+use Rattle.mpi_call.specs.Lists.{count_below}
 use Rattle.run_model.proofs.Views.{test_cases}
-use Rattle.causes.specs.Tables.{count_below}
 
 pub few_below : (at : ℕ) (places : List ℕ) → count_below at places ≤ length places
 few_below at [] = omega arith

@@ -18,9 +18,9 @@ use Rattle.run_model.specs.Views.{Next, items_taken}
 use Rattle.run_model.proofs.Positions.{name_at-rises}
 use Rattle.run_model.proofs.Taken.{TakesAt, distinct_parts, event_there, reply_taken, taken_once}
 use Rattle.msg_races.specs.declared.names.Name.{Name}
-use Rattle.msg_races.specs.declared.receives.Receive.{Receive}
-use Rattle.msg_races.specs.Names.{name_of}
-use Rattle.msg_races.specs.Races.{AreRaces, IsCompletion, IsOther, IsRace, IsWildcard, RunsHaveOneList}
+use Rattle.msg_races.specs.declared.receives.WildcardReceive.{WildcardReceive}
+use Rattle.msg_races.specs.Names.{receive_name}
+use Rattle.msg_races.specs.Races.{AreRaces, IsCompletion, IsRacingSend, IsRace, IsWildcard, RunsHaveOneList, arrival_of}
 use Rattle.msg_races.proofs.Others.{same_name}
 use Rattle.msg_races.proofs.SortedLists.{AreWithin, same_sorted}
 
@@ -120,47 +120,54 @@ one_completion next n events name at at' took took' run is too =
 
 -- 3. so a name is of one race
 
-other_moves : (n : ℕ) (events : List Event) (rank rank' comm comm' : ℕ) (tag tag' : Tag) (at at' : ℕ) (took took' send : Name) → rank ≡ rank' → comm ≡ comm'
-    → tag ≡ tag' → at ≡ at' → took ≡ took' → IsOther n events rank comm tag at took send → IsOther n events rank' comm' tag' at' took' send
-other_moves n events rank rank' comm comm' tag tag' at at' took took' send ranks comms tags places tooks is =
-    rw (← ranks, ← comms, ← tags, ← places, ← tooks) is
+other_moves : (n : ℕ) (events : List Event) (receive receive' : WildcardReceive) (comm comm' : ℕ) (tag tag' : Tag) (at at' : ℕ) (send : Name)
+    → receive.rank ≡ receive'.rank → comm ≡ comm' → tag ≡ tag' → at ≡ at' → receive.took ≡ receive'.took
+    → IsRacingSend n events (arrival_of receive comm tag at) send → IsRacingSend n events (arrival_of receive' comm' tag' at') send
+other_moves n events receive receive' comm comm' tag tag' at at' send ranks comms tags places tooks is = record {
+  place = is.place;
+  call = is.call;
+  sent = is.sent;
+  accepted = rw (← ranks, ← comms, ← tags) is.accepted;
+  other = rw (← tooks) is.other;
+  free = rw (← places) is.free;
+}
 
 same_parts : (rank rank' start start' : ℕ) (took took' : Name) (others others' : List Name) → rank ≡ rank' → start ≡ start' → took ≡ took' → others ≡ others'
-    → (let a : Receive = record { rank = rank; start = start; took = took; others = others } in
-    let b : Receive = record { rank = rank'; start = start'; took = took'; others = others' } in
+    → (let a : WildcardReceive = record { rank = rank; start = start; took = took; others = others } in
+    let b : WildcardReceive = record { rank = rank'; start = start'; took = took'; others = others' } in
     a ≡ b)
 same_parts rank rank' start start' took took' others others' ranks starts tooks same = cc
 
-same_receive : (one other : Receive) → name_of one ≡ name_of other → one.took ≡ other.took → one.others ≡ other.others → one ≡ other
+same_receive : (one other : WildcardReceive) → receive_name one ≡ receive_name other → one.took ≡ other.took → one.others ≡ other.others → one ≡ other
 same_receive one other names tooks others =
     same_parts one.rank other.rank one.start other.start one.took other.took one.others other.others
     (ap (λ (n : Name). n.rank) names) (ap (λ (n : Name). n.start) names) tooks others
 
 -- what two races of one name have in common
-record AreSame {n : ℕ} {events : List Event} {one other : Receive} (is : IsRace n events one) (too : IsRace n events other) : Type 0 where
+record AreSame {n : ℕ} {events : List Event} {one other : WildcardReceive} (is : IsRace n events one) (too : IsRace n events other) : Type 0 where
   rank : one.rank ≡ other.rank
   comm : is.comm ≡ too.comm
   tag : is.tag ≡ too.tag
   at : is.at ≡ too.at
   took : one.took ≡ other.took
 
-are_same : (next : Next) (n : ℕ) (events : List Event) (one other : Receive) (is : IsRace n events one) (too : IsRace n events other) → IsRun next n events
-    → name_of one ≡ name_of other → AreSame is too
+are_same : (next : Next) (n : ℕ) (events : List Event) (one other : WildcardReceive) (is : IsRace n events one) (too : IsRace n events other) → IsRun next n events
+    → receive_name one ≡ receive_name other → AreSame is too
 are_same next n events one other is too run names =
     let W : Name → Type 0 = λ name. IsWildcard events name is.comm is.tag in
     let C : Name → Type 0 = λ name. IsCompletion events name is.at one.took in
-    let wildcard = one_wildcard events (name_of other) is.comm too.comm is.tag too.tag (subst W names is.wildcard) too.wildcard in
-    let completion = one_completion next n events (name_of other) is.at too.at one.took other.took run (subst C names is.completion) too.completion in
+    let wildcard = one_wildcard events (receive_name other) is.comm too.comm is.tag too.tag (subst W names is.wildcard) too.wildcard in
+    let completion = one_completion next n events (receive_name other) is.at too.at one.took other.took run (subst C names is.completion) too.completion in
     record { rank = ap (λ (name : Name). name.rank) names; comm = wildcard.0; tag = wildcard.1; at = completion.0; took = completion.1 }
 
-others_within : (n : ℕ) (events : List Event) (one other : Receive) (is : IsRace n events one) (too : IsRace n events other) → AreSame is too
+others_within : (n : ℕ) (events : List Event) (one other : WildcardReceive) (is : IsRace n events one) (too : IsRace n events other) → AreSame is too
     → AreWithin one.others other.others
 others_within n events one other is too same send there =
     (too.others send).1
-    (other_moves n events one.rank other.rank is.comm too.comm is.tag too.tag is.at too.at one.took other.took send same.rank same.comm same.tag same.at same.took ((is.others send).0 there))
+    (other_moves n events one other is.comm too.comm is.tag too.tag is.at too.at send same.rank same.comm same.tag same.at same.took ((is.others send).0 there))
 
-one_race : (next : Next) (n : ℕ) (events : List Event) (one other : Receive) → IsRun next n events → IsRace n events one → IsRace n events other
-    → name_of one ≡ name_of other → one ≡ other
+one_race : (next : Next) (n : ℕ) (events : List Event) (one other : WildcardReceive) → IsRun next n events → IsRace n events one → IsRace n events other
+    → receive_name one ≡ receive_name other → one ≡ other
 one_race next n events one other run is too names =
     let same = are_same next n events one other is too run names in
     let back = are_same next n events other one too is run (sym names) in
@@ -169,14 +176,14 @@ one_race next n events one other run is too names =
 
 -- 4. lists
 
-races_within : (next : Next) (n : ℕ) (events : List Event) (one other : List Receive) → IsRun next n events → AreRaces n events one → AreRaces n events other
+races_within : (next : Next) (n : ℕ) (events : List Event) (one other : List WildcardReceive) → IsRun next n events → AreRaces n events one → AreRaces n events other
     → AreWithin one other
 races_within next n events one other run are too receive there =
     let race = are.each receive there in
-    let found = too.all (name_of receive) race.comm race.tag race.at receive.took race.wildcard race.completion in
-    let F : Receive → Type 0 = λ r. IsIn r other in
+    let found = too.all (receive_name receive) race.comm race.tag race.at receive.took race.wildcard race.completion in
+    let F : WildcardReceive → Type 0 = λ r. IsIn r other in
     subst F (one_race next n events found.0 receive run (too.each found.0 found.1) race found.2) found.1
 
 pub one_list : RunsHaveOneList
 one_list next n events one other run are too =
-    same_sorted name_of one other are.sorted too.sorted (races_within next n events one other run are too) (races_within next n events other one run too are)
+    same_sorted receive_name one other are.sorted too.sorted (races_within next n events one other run are too) (races_within next n events other one run too are)

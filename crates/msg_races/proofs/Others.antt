@@ -5,25 +5,24 @@ use Rattle.mpi_call.specs.declared.call.Call.{Call}
 use Rattle.mpi_call.specs.declared.call.Source.TheVariants.{Any}
 use Rattle.mpi_call.specs.declared.call.Tag.{Tag}
 use Rattle.mpi_call.specs.declared.call.Tag.TheVariants.{Any as AnyTag, Is}
-use Rattle.mpi_call.specs.Acceptance.{accepts}
-use Rattle.mpi_call.specs.Lists.{IsIn, Rises}
+use Rattle.mpi_call.specs.Acceptance.{accepts, tag_named}
+use Rattle.mpi_call.specs.Lists.{IsIn, Rises, count_below}
 use Rattle.run_model.specs.declared.event.Event.{Event}
 use Rattle.run_model.specs.Views.{is_start}
 use Rattle.run_model.proofs.Positions.{name_at-rises}
 use Rattle.run_model.proofs.StartLemmas.{slice_get-below}
 use Rattle.run_model.proofs.Views.{test_cases}
-use Rattle.causes.specs.Before.{IsStep}
+use Rattle.causes.specs.Before.{PrecedesDirectly}
 use Rattle.causes.specs.Before.IsBefore.{path}
-use Rattle.causes.specs.Clocks.{AreOfRanks, Observed, Tells, comes_before}
+use Rattle.causes.specs.Clocks.{AreOfRanks, Observed, TellsBefore, comes_before}
 use Rattle.causes.specs.Positions.{is_start_of, positions}
-use Rattle.causes.specs.Tables.{count_below}
 use Rattle.causes.proofs.PositionLemmas.{in-placed, placed-in, positions-rise}
 use Rattle.msg_races.specs.declared.arrival.Arrival.{Arrival}
 use Rattle.msg_races.specs.declared.names.Name.{Name}
-use Rattle.msg_races.specs.Listing.{open_names, others_below, others_from, unless_taken, way_from}
+use Rattle.msg_races.specs.Listing.{open_names, racing_below, racing_from, unless_taken, way_from}
 use Rattle.msg_races.specs.Names.{AreSorted, same_start}
-use Rattle.msg_races.specs.Races.{IsOther}
-use Rattle.msg_races.specs.Ways.{goes, tag_named, tag_of}
+use Rattle.msg_races.specs.Races.{IsRacingSend}
+use Rattle.msg_races.specs.Ways.{goes_way, named_tag}
 use Rattle.msg_races.proofs.SortedLists.{in_back, in_front, in_joined, in_parts, joined_in, sorted_append, sorted_joined}
 use Rattle.msg_races.proofs.StartNames.{name_there, start_of_name}
 
@@ -151,7 +150,7 @@ sorted_open is_late sender starts took low (first ∷ places) rises more = elim 
 ]
 
 -- the Sends that go a way
-tag_back : (tag : Tag) → tag_of (tag_named tag) ≡ tag
+tag_back : (tag : Tag) → named_tag (tag_named tag) ≡ tag
 tag_back AnyTag = refl
 tag_back (Is tag) = refl
 
@@ -162,13 +161,13 @@ pub record IsSend (events : List Event) (arrival : Arrival) (sender place : ℕ)
   pub passes : is_start_of sender event ≡ true
   pub accepted : accepts arrival.rank arrival.comm Any arrival.tag event.rank event.call ≡ true
 
-pub goes_parts : (events : List Event) (arrival : Arrival) (sender place : ℕ) → IsIn place (positions (goes (way_from arrival sender)) 0 events) → IsSend events arrival sender place
+pub goes_parts : (events : List Event) (arrival : Arrival) (sender place : ℕ) → IsIn place (positions (goes_way (way_from arrival sender)) 0 events) → IsSend events arrival sender place
 goes_parts events arrival sender place h =
-    let placed = placed-in (goes (way_from arrival sender)) events place h in
+    let placed = placed-in (goes_way (way_from arrival sender)) events place h in
     let event : Event = placed.event in
     let T : Tag → Bool = λ t. accepts arrival.rank arrival.comm Any t event.rank event.call in
-    let parts = and_parts (is_start (event.call, event.reply)) ((event.rank == sender) && T (tag_of (tag_named arrival.tag))) placed.passes in
-    let more = and_parts (event.rank == sender) (T (tag_of (tag_named arrival.tag))) parts.1 in
+    let parts = and_parts (is_start (event.call, event.reply)) ((event.rank == sender) && T (named_tag (tag_named arrival.tag))) placed.passes in
+    let more = and_parts (event.rank == sender) (T (named_tag (tag_named arrival.tag))) parts.1 in
     record {
       event = event;
       there = placed.there;
@@ -178,12 +177,12 @@ goes_parts events arrival sender place h =
     }
 
 pub goes_from : (events : List Event) (arrival : Arrival) (sender place : ℕ) (event : Event) → slice_get events place ≡ Some event → is_start (event.call, event.reply) ≡ true
-    → event.rank ≡ sender → accepts arrival.rank arrival.comm Any arrival.tag event.rank event.call ≡ true → IsIn place (positions (goes (way_from arrival sender)) 0 events)
+    → event.rank ≡ sender → accepts arrival.rank arrival.comm Any arrival.tag event.rank event.call ≡ true → IsIn place (positions (goes_way (way_from arrival sender)) 0 events)
 goes_from events arrival sender place event there start own accepted =
     let T : Tag → Bool = λ t. accepts arrival.rank arrival.comm Any t event.rank event.call in
-    in-placed (goes (way_from arrival sender)) events place event there
-    (and_from (is_start (event.call, event.reply)) ((event.rank == sender) && T (tag_of (tag_named arrival.tag))) start
-    (and_from (event.rank == sender) (T (tag_of (tag_named arrival.tag))) (eq-eqb event.rank sender own) (ap T (tag_back arrival.tag) ∙ accepted)))
+    in-placed (goes_way (way_from arrival sender)) events place event there
+    (and_from (is_start (event.call, event.reply)) ((event.rank == sender) && T (named_tag (tag_named arrival.tag))) start
+    (and_from (event.rank == sender) (T (named_tag (tag_named arrival.tag))) (eq-eqb event.rank sender own) (ap T (tag_back arrival.tag) ∙ accepted)))
 
 -- later events of a rank come after what earlier ones come after
 get_taken : {A : Type 0} (xs : List A) (p s : ℕ) (x : A) → s < p → slice_get xs s ≡ Some x → slice_get (take p xs) s ≡ Some x
@@ -192,7 +191,7 @@ get_taken (y ∷ ys) zero s x less h = absurd (omega (arith, less))
 get_taken (y ∷ ys) (suc p) zero x less h = h
 get_taken (y ∷ ys) (suc p) (suc s) x less h = get_taken ys p s x (omega (arith, less)) h
 
-own_step : (n : ℕ) (events : List Event) (p q : ℕ) (one other : Event) → slice_get events p ≡ Some one → slice_get events q ≡ Some other → one.rank ≡ other.rank → p < q → IsStep n events p q
+own_step : (n : ℕ) (events : List Event) (p q : ℕ) (one other : Event) → slice_get events p ≡ Some one → slice_get events q ≡ Some other → one.rank ≡ other.rank → p < q → PrecedesDirectly n events p q
 own_step n events p q one other at_p at_q own less =
     let taken = get_taken events q p one less at_p in
     record {
@@ -201,8 +200,8 @@ own_step n events p q one other at_p at_q own less =
       direct = record { less = slice_get-below (take q events) p one taken; why = inl (record { earlier = one; at = taken; own = own }) };
     }
 
-stays_late : (seen : Observed) (arrival : Arrival) (sender p q : ℕ) → Tells (comes_before seen) seen.ranks seen.events
-    → IsIn p (positions (goes (way_from arrival sender)) 0 seen.events) → IsIn q (positions (goes (way_from arrival sender)) 0 seen.events) → p < q
+stays_late : (seen : Observed) (arrival : Arrival) (sender p q : ℕ) → TellsBefore (comes_before seen) seen.ranks seen.events
+    → IsIn p (positions (goes_way (way_from arrival sender)) 0 seen.events) → IsIn q (positions (goes_way (way_from arrival sender)) 0 seen.events) → p < q
     → comes_before seen arrival.at p ≡ true → comes_before seen arrival.at q ≡ true
 stays_late seen arrival sender p q tells at_p at_q less late =
     let one = goes_parts seen.events arrival sender p at_p in
@@ -210,7 +209,7 @@ stays_late seen arrival sender p q tells at_p at_q less late =
     let before = (tells arrival.at p).0 late in
     (tells arrival.at q).1 (path arrival.at p q before (own_step seen.ranks seen.events p q one.event other.event one.there other.there (one.own ∙ sym other.own) less))
 
-more_starts : (events : List Event) (arrival : Arrival) (sender p q : ℕ) → IsIn p (positions (goes (way_from arrival sender)) 0 events) → IsIn q (positions (goes (way_from arrival sender)) 0 events) → p < q
+more_starts : (events : List Event) (arrival : Arrival) (sender p q : ℕ) → IsIn p (positions (goes_way (way_from arrival sender)) 0 events) → IsIn q (positions (goes_way (way_from arrival sender)) 0 events) → p < q
     → count_below p (positions (is_start_of sender) 0 events) < count_below q (positions (is_start_of sender) 0 events)
 more_starts events arrival sender p q at_p at_q less =
     let one = goes_parts events arrival sender p at_p in
@@ -219,25 +218,25 @@ more_starts events arrival sender p q at_p at_q less =
     name_at-rises events p q (sender, count_below p starts) (sender, count_below q starts)
     (name_there events sender p one.event one.there one.passes) (name_there events sender q other.event other.there other.passes) refl less
 
-own_rank : (seen : Observed) (arrival : Arrival) (sender : ℕ) (name : Name) → IsIn name (others_from seen arrival sender) → name.rank ≡ sender
+own_rank : (seen : Observed) (arrival : Arrival) (sender : ℕ) (name : Name) → IsIn name (racing_from seen arrival sender) → name.rank ≡ sender
 own_rank seen arrival sender name h =
-    (in_open (comes_before seen arrival.at) sender (positions (is_start_of sender) 0 seen.events) arrival.took (positions (goes (way_from arrival sender)) 0 seen.events) name h).rank_is
+    (in_open (comes_before seen arrival.at) sender (positions (is_start_of sender) 0 seen.events) arrival.took (positions (goes_way (way_from arrival sender)) 0 seen.events) name h).rank_is
 
-pub others_sorted : (seen : Observed) (arrival : Arrival) (ranks : ℕ) → AreSorted (λ (n : Name). n) (others_below seen arrival ranks)
+pub others_sorted : (seen : Observed) (arrival : Arrival) (ranks : ℕ) → AreSorted (λ (n : Name). n) (racing_below seen arrival ranks)
 others_sorted seen arrival ranks =
-    sorted_joined (λ (n : Name). n) (others_from seen arrival) ranks
-    (λ sender. sorted_open (comes_before seen arrival.at) sender (positions (is_start_of sender) 0 seen.events) arrival.took 0 (positions (goes (way_from arrival sender)) 0 seen.events)
-    (positions-rise (goes (way_from arrival sender)) 0 seen.events)
+    sorted_joined (λ (n : Name). n) (racing_from seen arrival) ranks
+    (λ sender. sorted_open (comes_before seen arrival.at) sender (positions (is_start_of sender) 0 seen.events) arrival.took 0 (positions (goes_way (way_from arrival sender)) 0 seen.events)
+    (positions-rise (goes_way (way_from arrival sender)) 0 seen.events)
     (λ p q at_p at_q less. more_starts seen.events arrival sender p q at_p at_q less))
     (own_rank seen arrival)
 
-pub listed_is_other : (seen : Observed) (arrival : Arrival) (name : Name) → Tells (comes_before seen) seen.ranks seen.events
-    → IsIn name (others_below seen arrival seen.ranks) → IsOther seen.ranks seen.events arrival.rank arrival.comm arrival.tag arrival.at arrival.took name
+pub listed_is_other : (seen : Observed) (arrival : Arrival) (name : Name) → TellsBefore (comes_before seen) seen.ranks seen.events
+    → IsIn name (racing_below seen arrival seen.ranks) → IsRacingSend seen.ranks seen.events arrival name
 listed_is_other seen arrival name tells h =
-    let given = in_joined (others_from seen arrival) seen.ranks name h in
+    let given = in_joined (racing_from seen arrival) seen.ranks name h in
     let sender : ℕ = given.rank in
     let starts : List ℕ = positions (is_start_of sender) 0 seen.events in
-    let is = in_open (comes_before seen arrival.at) sender starts arrival.took (positions (goes (way_from arrival sender)) 0 seen.events) name given.given in
+    let is = in_open (comes_before seen arrival.at) sender starts arrival.took (positions (goes_way (way_from arrival sender)) 0 seen.events) name given.given in
     let send = goes_parts seen.events arrival sender is.place is.among in
     let N : ℕ → ℕ → Option (ℕ × ℕ) = λ r k. Some (r, k) in
     let A : ℕ → Bool = λ r. accepts arrival.rank arrival.comm Any arrival.tag r send.event.call in
@@ -264,8 +263,8 @@ rank_below n (x ∷ xs) zero event all h =
     omega (arith, low, ranks)
 rank_below n (x ∷ xs) (suc place) event all h = rank_below n xs place event (λ i d within. all (suc i) d (omega (arith, within))) h
 
-pub other_is_listed : (seen : Observed) (arrival : Arrival) (name : Name) → Tells (comes_before seen) seen.ranks seen.events → AreOfRanks seen.ranks seen.events
-    → IsOther seen.ranks seen.events arrival.rank arrival.comm arrival.tag arrival.at arrival.took name → IsIn name (others_below seen arrival seen.ranks)
+pub other_is_listed : (seen : Observed) (arrival : Arrival) (name : Name) → TellsBefore (comes_before seen) seen.ranks seen.events → AreOfRanks seen.ranks seen.events
+    → IsRacingSend seen.ranks seen.events arrival name → IsIn name (racing_below seen arrival seen.ranks)
 other_is_listed seen arrival name tells ranks other =
     let start = start_of_name seen.events name.rank name.start other.place other.sent.named in
     let some : Some start.event ≡ Some other.sent.event = sym start.there ∙ other.sent.there in
@@ -276,14 +275,14 @@ other_is_listed seen arrival name tells ranks other =
     let low : start.event.rank < seen.ranks = rank_below seen.ranks seen.events other.place start.event ranks start.there in
     let sender : ℕ = name.rank in
     let starts : List ℕ = positions (is_start_of sender) 0 seen.events in
-    let places : List ℕ = positions (goes (way_from arrival sender)) 0 seen.events in
+    let places : List ℕ = positions (goes_way (way_from arrival sender)) 0 seen.events in
     let listed : Name = record { rank = sender; start = count_below other.place starts } in
     let is : name ≡ listed = same_name name.rank sender name.start (count_below other.place starts) refl start.number_is in
     let apart : same_start listed arrival.took ≡ false = false_from_ne_true (same_start listed arrival.took) (λ t. other.other (is ∙ same_start-is listed arrival.took t)) in
     let not_late : comes_before seen arrival.at other.place ≡ false = false_from_ne_true (comes_before seen arrival.at other.place) (λ t. other.free ((tells arrival.at other.place).0 t)) in
     let among = goes_from seen.events arrival sender other.place start.event start.there start.start start.own accepted in
-    let inside = open_in (comes_before seen arrival.at) sender starts arrival.took 0 places other.place (positions-rise (goes (way_from arrival sender)) 0 seen.events)
+    let inside = open_in (comes_before seen arrival.at) sender starts arrival.took 0 places other.place (positions-rise (goes_way (way_from arrival sender)) 0 seen.events)
     (λ p q at_p at_q less. stays_late seen arrival sender p q tells at_p at_q less) among not_late apart in
-    let P : Name → Type 0 = λ n. IsIn n (others_from seen arrival sender) in
+    let P : Name → Type 0 = λ n. IsIn n (racing_from seen arrival sender) in
     let own = start.own in
-    joined_in (others_from seen arrival) seen.ranks sender name (omega (arith, low, own)) (subst P (sym is) inside)
+    joined_in (racing_from seen arrival) seen.ranks sender name (omega (arith, low, own)) (subst P (sym is) inside)

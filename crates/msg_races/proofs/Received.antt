@@ -6,17 +6,17 @@ use Rattle.mpi_call.specs.declared.call.Source.TheVariants.{Any, From, Null}
 use Rattle.mpi_call.specs.Lists.{IsIn}
 use Rattle.run_model.specs.declared.event.Event.{Event}
 use Rattle.run_model.specs.Pairs.{name_at}
-use Rattle.causes.specs.Clocks.{AreOfRanks, Observed, Tells, comes_before}
+use Rattle.causes.specs.Clocks.{AreOfRanks, Observed, TellsBefore, comes_before}
 use Rattle.causes.specs.Positions.{is_start_of, positions}
 use Rattle.causes.proofs.PositionLemmas.{in-placed}
 use Rattle.msg_races.specs.declared.arrival.Arrival.{Arrival}
-use Rattle.msg_races.specs.declared.completions.Completion.{Completion}
+use Rattle.msg_races.specs.declared.completions.ReceiveCompletion.{ReceiveCompletion}
 use Rattle.msg_races.specs.declared.names.Name.{Name}
-use Rattle.msg_races.specs.declared.receives.Receive.{Receive}
-use Rattle.msg_races.specs.Completions.{completion_of}
-use Rattle.msg_races.specs.Listing.{arrival_at, arrival_by, receive_of, received, receives_at, receives_below, receives_of}
-use Rattle.msg_races.specs.Names.{AreSorted, name_of}
-use Rattle.msg_races.specs.Races.{AreRaces, IsCompletion, IsRace, IsStart, IsWildcard}
+use Rattle.msg_races.specs.declared.receives.WildcardReceive.{WildcardReceive}
+use Rattle.msg_races.specs.inside.Completions.{completion_of}
+use Rattle.msg_races.specs.Listing.{arrival_at, arrival_by, raced_receive, received, receives_at, receives_below, receives_of}
+use Rattle.msg_races.specs.Names.{AreSorted, receive_name}
+use Rattle.msg_races.specs.Races.{AreRaces, IsCompletion, IsRace, IsNamedStart, IsWildcard}
 use Rattle.msg_races.proofs.Completed.{completion_is, completion_known}
 use Rattle.msg_races.proofs.Others.{listed_is_other, other_is_listed, others_sorted, rank_below, same_name}
 use Rattle.msg_races.proofs.SortedLists.{in_back, in_front, in_joined, in_parts, joined_in, sorted_append, sorted_joined}
@@ -30,22 +30,22 @@ pub record IsArrival (events : List Event) (name : Name) (place : ℕ) (arrival 
   pub call_is : event.call ≡ Post arrival.comm Any arrival.tag room
   pub rank_is : arrival.rank ≡ name.rank
   pub start_is : arrival.start ≡ name.start
-  pub completion : Completion
+  pub completion : ReceiveCompletion
   pub known : completion_of events name ≡ Some completion
   pub at_is : completion.at ≡ arrival.at
   pub took_is : completion.took ≡ arrival.took
 
-record IsArrivalBy (name : Name) (call : Call) (known : Option Completion) (arrival : Arrival) : Type 0 where
+record IsArrivalBy (name : Name) (call : Call) (known : Option ReceiveCompletion) (arrival : Arrival) : Type 0 where
   room : ℕ
   call_is : call ≡ Post arrival.comm Any arrival.tag room
   rank_is : arrival.rank ≡ name.rank
   start_is : arrival.start ≡ name.start
-  completion : Completion
+  completion : ReceiveCompletion
   known_is : known ≡ Some completion
   at_is : completion.at ≡ arrival.at
   took_is : completion.took ≡ arrival.took
 
-arrival_parts : (name : Name) (call : Call) (known : Option Completion) (arrival : Arrival) → arrival_by name call known ≡ Some arrival → IsArrivalBy name call known arrival
+arrival_parts : (name : Name) (call : Call) (known : Option ReceiveCompletion) (arrival : Arrival) → arrival_by name call known ≡ Some arrival → IsArrivalBy name call known arrival
 arrival_parts name (Post comm Any tag room) (Some completion) arrival h =
     let made : Arrival = record { rank = name.rank; start = name.start; comm = comm; tag = tag; at = completion.at; took = completion.took } in
     let same : made ≡ arrival = cc in
@@ -88,20 +88,20 @@ some_event events name place arrival (Some event) there h =
     }
 
 -- a listed receive comes from a start
-pub record IsReceived (seen : Observed) (rank number : ℕ) (places : List ℕ) (receive : Receive) : Type 0 where
+pub record IsReceived (seen : Observed) (rank number : ℕ) (places : List ℕ) (receive : WildcardReceive) : Type 0 where
   pub place : ℕ
   pub start : ℕ
   pub high : number ≤ start
   pub named : name_at seen.events place ≡ Some (rank, start)
   pub arrival : Arrival
   pub arrives : (let name : Name = record { rank = rank; start = start } in IsArrival seen.events name place arrival)
-  pub is : receive_of seen arrival ≡ receive
+  pub is : raced_receive seen arrival ≡ receive
 
-in_received : (seen : Observed) (found : Option Arrival) (receive : Receive) → IsIn receive (received seen found) → (arrival : Arrival) × (found ≡ Some arrival) × (receive_of seen arrival ≡ receive)
+in_received : (seen : Observed) (found : Option Arrival) (receive : WildcardReceive) → IsIn receive (received seen found) → (arrival : Arrival) × (found ≡ Some arrival) × (raced_receive seen arrival ≡ receive)
 in_received seen None receive h = absurd h
 in_received seen (Some arrival) receive h = elim h [ inl e ↦ (arrival, refl, e) | inr never ↦ absurd never ]
 
-in_receives : (seen : Observed) (rank number : ℕ) (places : List ℕ) (receive : Receive) → AreNumbered seen.events rank number places
+in_receives : (seen : Observed) (rank number : ℕ) (places : List ℕ) (receive : WildcardReceive) → AreNumbered seen.events rank number places
     → IsIn receive (receives_at seen rank number places) → IsReceived seen rank number places receive
 in_receives seen rank number [] receive numbered h = absurd h
 in_receives seen rank number (place ∷ places) receive numbered h =
@@ -124,61 +124,61 @@ in_receives seen rank number (place ∷ places) receive numbered h =
           record { place = rest.place; start = rest.start; high = omega (arith, high); named = rest.named; arrival = rest.arrival; arrives = rest.arrives; is = rest.is })
     ]
 
-received_rank : (seen : Observed) (rank number : ℕ) (places : List ℕ) (receive : Receive) (is : IsReceived seen rank number places receive) → receive.rank ≡ rank
-received_rank seen rank number places receive is = ap (λ (r : Receive). r.rank) (sym is.is) ∙ is.arrives.rank_is
+received_rank : (seen : Observed) (rank number : ℕ) (places : List ℕ) (receive : WildcardReceive) (is : IsReceived seen rank number places receive) → receive.rank ≡ rank
+received_rank seen rank number places receive is = ap (λ (r : WildcardReceive). r.rank) (sym is.is) ∙ is.arrives.rank_is
 
-received_start : (seen : Observed) (rank number : ℕ) (places : List ℕ) (receive : Receive) (is : IsReceived seen rank number places receive) → receive.start ≡ is.start
-received_start seen rank number places receive is = ap (λ (r : Receive). r.start) (sym is.is) ∙ is.arrives.start_is
+received_start : (seen : Observed) (rank number : ℕ) (places : List ℕ) (receive : WildcardReceive) (is : IsReceived seen rank number places receive) → receive.start ≡ is.start
+received_start seen rank number places receive is = ap (λ (r : WildcardReceive). r.start) (sym is.is) ∙ is.arrives.start_is
 
 -- they are sorted
-one_sorted : (seen : Observed) (found : Option Arrival) → AreSorted name_of (received seen found)
+one_sorted : (seen : Observed) (found : Option Arrival) → AreSorted receive_name (received seen found)
 one_sorted seen None = tt
 one_sorted seen (Some arrival) = (λ later never. absurd never, tt)
 
-receives_sorted : (seen : Observed) (rank number : ℕ) (places : List ℕ) → AreNumbered seen.events rank number places → AreSorted name_of (receives_at seen rank number places)
+receives_sorted : (seen : Observed) (rank number : ℕ) (places : List ℕ) → AreNumbered seen.events rank number places → AreSorted receive_name (receives_at seen rank number places)
 receives_sorted seen rank number [] numbered = tt
 receives_sorted seen rank number (place ∷ places) numbered =
     let name : Name = record { rank = rank; start = number } in
-    sorted_append name_of (received seen (arrival_at seen.events name place)) (receives_at seen rank (number + 1) places)
+    sorted_append receive_name (received seen (arrival_at seen.events name place)) (receives_at seen rank (number + 1) places)
     (one_sorted seen (arrival_at seen.events name place))
     (receives_sorted seen rank (number + 1) places numbered.1)
     (λ a b in_a in_b. (
     let first = in_received seen (arrival_at seen.events name place) a in_a in
     let arrives = some_event seen.events name place first.0 (slice_get seen.events place) refl first.1 in
     let is = in_receives seen rank (number + 1) places b numbered.1 in_b in
-    let rank_a : a.rank ≡ rank = ap (λ (r : Receive). r.rank) (sym first.2) ∙ arrives.rank_is in
-    let start_a : a.start ≡ number = ap (λ (r : Receive). r.start) (sym first.2) ∙ arrives.start_is in
+    let rank_a : a.rank ≡ rank = ap (λ (r : WildcardReceive). r.rank) (sym first.2) ∙ arrives.rank_is in
+    let start_a : a.start ≡ number = ap (λ (r : WildcardReceive). r.start) (sym first.2) ∙ arrives.start_is in
     let rank_b = received_rank seen rank (number + 1) places b is in
     let start_b = received_start seen rank (number + 1) places b is in
     let high = is.high in
     inr (rank_a ∙ sym rank_b, omega (arith, start_a, start_b, high))))
 
-rank_of_receive : (seen : Observed) (rank : ℕ) (receive : Receive) → IsIn receive (receives_of seen rank) → receive.rank ≡ rank
+rank_of_receive : (seen : Observed) (rank : ℕ) (receive : WildcardReceive) → IsIn receive (receives_of seen rank) → receive.rank ≡ rank
 rank_of_receive seen rank receive h =
     let places : List ℕ = positions (is_start_of rank) 0 seen.events in
     received_rank seen rank 0 places receive (in_receives seen rank 0 places receive (starts_numbered seen.events rank) h)
 
-all_sorted : (seen : Observed) → AreSorted name_of (receives_below seen seen.ranks)
+all_sorted : (seen : Observed) → AreSorted receive_name (receives_below seen seen.ranks)
 all_sorted seen =
-    sorted_joined name_of (receives_of seen) seen.ranks
+    sorted_joined receive_name (receives_of seen) seen.ranks
     (λ rank. receives_sorted seen rank 0 (positions (is_start_of rank) 0 seen.events) (starts_numbered seen.events rank))
     (λ rank receive h. rank_of_receive seen rank receive h)
 
 -- each of them is a race
-race_of : (seen : Observed) (rank : ℕ) (receive : Receive) (number : ℕ) (places : List ℕ) → Tells (comes_before seen) seen.ranks seen.events → AreOfRanks seen.ranks seen.events
+race_of : (seen : Observed) (rank : ℕ) (receive : WildcardReceive) (number : ℕ) (places : List ℕ) → TellsBefore (comes_before seen) seen.ranks seen.events → AreOfRanks seen.ranks seen.events
     → IsReceived seen rank number places receive → IsRace seen.ranks seen.events receive
 race_of seen rank receive number places tells ranks is =
     let arrives = is.arrives in
     let arrival = is.arrival in
     let name : Name = record { rank = rank; start = is.start } in
-    let own : name ≡ name_of (receive_of seen arrival) = same_name rank arrival.rank is.start arrival.start (sym arrives.rank_is) (sym arrives.start_is) in
+    let own : name ≡ receive_name (raced_receive seen arrival) = same_name rank arrival.rank is.start arrival.start (sym arrives.rank_is) (sym arrives.start_is) in
     let C : Name → Type 0 = λ n. IsCompletion seen.events n arrives.completion.at arrives.completion.took in
-    let D : ℕ → Type 0 = λ k. IsCompletion seen.events (name_of (receive_of seen arrival)) k arrives.completion.took in
-    let E : Name → Type 0 = λ n. IsCompletion seen.events (name_of (receive_of seen arrival)) arrival.at n in
+    let D : ℕ → Type 0 = λ k. IsCompletion seen.events (receive_name (raced_receive seen arrival)) k arrives.completion.took in
+    let E : Name → Type 0 = λ n. IsCompletion seen.events (receive_name (raced_receive seen arrival)) arrival.at n in
     let N : Name → Type 0 = λ n. IsWildcard seen.events n arrival.comm arrival.tag in
-    let start : IsStart seen.events name is.place (Post arrival.comm Any arrival.tag arrives.room) = record { event = arrives.event; there = arrives.there; call_is = arrives.call_is; named = is.named } in
-    let R : Receive → Type 0 = λ r. IsRace seen.ranks seen.events r in
-    let race : IsRace seen.ranks seen.events (receive_of seen arrival) = record {
+    let start : IsNamedStart seen.events name is.place (Post arrival.comm Any arrival.tag arrives.room) = record { event = arrives.event; there = arrives.there; call_is = arrives.call_is; named = is.named } in
+    let R : WildcardReceive → Type 0 = λ r. IsRace seen.ranks seen.events r in
+    let race : IsRace seen.ranks seen.events (raced_receive seen arrival) = record {
       comm = arrival.comm;
       tag = arrival.tag;
       wildcard = subst N own (record { at = is.place; room = arrives.room; post = start });
@@ -191,12 +191,12 @@ race_of seen rank receive number places tells ranks is =
 
 -- and each completed wildcard receive is there
 numbered_in : (seen : Observed) (rank number : ℕ) (places : List ℕ) (start place : ℕ) (arrival : Arrival) → AreNumbered seen.events rank number places → IsIn place places → name_at seen.events place ≡ Some (rank, start)
-    → (let name : Name = record { rank = rank; start = start } in arrival_at seen.events name place ≡ Some arrival) → IsIn (receive_of seen arrival) (receives_at seen rank number places)
+    → (let name : Name = record { rank = rank; start = start } in arrival_at seen.events name place ≡ Some arrival) → IsIn (raced_receive seen arrival) (receives_at seen rank number places)
 numbered_in seen rank number [] start place arrival numbered there named arrives = absurd there
 numbered_in seen rank number (first ∷ places) start place arrival numbered there named arrives =
     let own : Name = record { rank = rank; start = number } in
-    let one : List Receive = received seen (arrival_at seen.events own first) in
-    let more : List Receive = receives_at seen rank (number + 1) places in
+    let one : List WildcardReceive = received seen (arrival_at seen.events own first) in
+    let more : List WildcardReceive = receives_at seen rank (number + 1) places in
     elim there [
       | inl e ↦ (
           let F : ℕ → Type 0 = λ p. name_at seen.events p ≡ Some (rank, number) in
@@ -206,12 +206,12 @@ numbered_in seen rank number (first ∷ places) start place arrival numbered the
           let G : ℕ → Type 0 = λ k. (let name : Name = record { rank = rank; start = k } in arrival_at seen.events name place ≡ Some arrival) in
           let H : ℕ → Type 0 = λ p. arrival_at seen.events own p ≡ Some arrival in
           let here : arrival_at seen.events own first ≡ Some arrival = subst H (sym e) (subst G (sym same) arrives) in
-          in_front (receive_of seen arrival) one more (rw here (inl refl)))
-      | inr later ↦ in_back (receive_of seen arrival) one more (numbered_in seen rank (number + 1) places start place arrival numbered.1 later named arrives)
+          in_front (raced_receive seen arrival) one more (rw here (inl refl)))
+      | inr later ↦ in_back (raced_receive seen arrival) one more (numbered_in seen rank (number + 1) places start place arrival numbered.1 later named arrives)
     ]
 
 race_there : (seen : Observed) (name : Name) (comm : ℕ) (tag : _) (at : ℕ) (took : Name) → AreOfRanks seen.ranks seen.events → IsWildcard seen.events name comm tag → IsCompletion seen.events name at took
-    → (receive : Receive) × IsIn receive (receives_below seen seen.ranks) × (name_of receive ≡ name)
+    → (receive : WildcardReceive) × IsIn receive (receives_below seen seen.ranks) × (receive_name receive ≡ name)
 race_there seen name comm tag at took ranks wildcard completed =
     let post = wildcard.post in
     let known = completion_known seen.events name at took completed in
@@ -222,12 +222,12 @@ race_there seen name comm tag at took ranks wildcard completed =
     let places : List ℕ = positions (is_start_of name.rank) 0 seen.events in
     let there : IsIn wildcard.at places = in-placed (is_start_of name.rank) seen.events wildcard.at start.event start.there start.passes in
     let arrives : arrival_at seen.events name wildcard.at ≡ Some arrival = rw (post.there, post.call_is, known.1) refl in (
-      receive_of seen arrival,
-      joined_in (receives_of seen) seen.ranks name.rank (receive_of seen arrival) (omega (arith, low, own)) (numbered_in seen name.rank 0 places name.start wildcard.at arrival (starts_numbered seen.events name.rank) there post.named arrives),
+      raced_receive seen arrival,
+      joined_in (receives_of seen) seen.ranks name.rank (raced_receive seen arrival) (omega (arith, low, own)) (numbered_in seen name.rank 0 places name.start wildcard.at arrival (starts_numbered seen.events name.rank) there post.named arrives),
       refl,
     )
 
-pub listed_are_races : (seen : Observed) → Tells (comes_before seen) seen.ranks seen.events → AreOfRanks seen.ranks seen.events → AreRaces seen.ranks seen.events (receives_below seen seen.ranks)
+pub listed_are_races : (seen : Observed) → TellsBefore (comes_before seen) seen.ranks seen.events → AreOfRanks seen.ranks seen.events → AreRaces seen.ranks seen.events (receives_below seen seen.ranks)
 listed_are_races seen tells ranks = record {
   sorted = all_sorted seen;
   each = λ receive h. (
@@ -238,7 +238,7 @@ listed_are_races seen tells ranks = record {
 }
 
 -- the same, of n ranks and these events
-pub races_of : (seen : Observed) (n : ℕ) (events : List Event) → seen.ranks ≡ n → seen.events ≡ events → Tells (comes_before seen) seen.ranks seen.events → AreOfRanks n events
+pub races_of : (seen : Observed) (n : ℕ) (events : List Event) → seen.ranks ≡ n → seen.events ≡ events → TellsBefore (comes_before seen) seen.ranks seen.events → AreOfRanks n events
     → AreRaces n events (receives_below seen n)
 races_of seen n events ranks same tells below =
     let P : ℕ → Type 0 = λ k. AreOfRanks k seen.events in

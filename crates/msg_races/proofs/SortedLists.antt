@@ -2,7 +2,7 @@
 use Rattle.std.proofs.Common.{◌≡◌, ◌≤◌, ◌<◌, ◌⊎◌, ◌+◌, ◌++◌, ◌∷◌, [], ℕ, zero, suc, List, inl, inr, ap, arith, subst, refl, sym, ◌∙◌}
 use Rattle.mpi_call.specs.Lists.{IsIn}
 use Rattle.msg_races.specs.declared.names.Name.{Name}
-use Rattle.msg_races.specs.Listing.{joined}
+use Rattle.msg_races.specs.Listing.{lists_below}
 use Rattle.msg_races.specs.Names.{AreSorted, ComesBefore}
 
 pub in_parts : {A : Type 0} (a : A) (xs ys : List A) → IsIn a (xs ++ ys) → IsIn a xs ⊎ IsIn a ys
@@ -78,9 +78,9 @@ pub record IsGiven {A : Type 0} (lists : ℕ → List A) (ranks : ℕ) (a : A) :
   pub below : rank < ranks
   pub given : IsIn a (lists rank)
 
-pub in_joined : {A : Type 0} (lists : ℕ → List A) (ranks : ℕ) (a : A) → IsIn a (joined lists ranks) → IsGiven lists ranks a
+pub in_joined : {A : Type 0} (lists : ℕ → List A) (ranks : ℕ) (a : A) → IsIn a (lists_below lists ranks) → IsGiven lists ranks a
 in_joined lists zero a h = absurd h
-in_joined lists (suc ranks) a h = elim (in_parts a (joined lists ranks) (lists ranks) h) [
+in_joined lists (suc ranks) a h = elim (in_parts a (lists_below lists ranks) (lists ranks) h) [
   | inl l ↦ (let rest = in_joined lists ranks a l in let low = rest.below in record { rank = rest.rank; below = omega (arith, low); given = rest.given })
   | inr r ↦ record { rank = ranks; below = omega arith; given = r }
 ]
@@ -91,24 +91,24 @@ test_last zero (suc b) h = inr (omega arith)
 test_last (suc a) zero h = absurd (omega (arith, h))
 test_last (suc a) (suc b) h = elim (test_last a b (omega (arith, h))) [ inl e ↦ inl (ap suc e) | inr l ↦ inr (omega (arith, l)) ]
 
-pub joined_in : {A : Type 0} (lists : ℕ → List A) (ranks rank : ℕ) (a : A) → rank < ranks → IsIn a (lists rank) → IsIn a (joined lists ranks)
+pub joined_in : {A : Type 0} (lists : ℕ → List A) (ranks rank : ℕ) (a : A) → rank < ranks → IsIn a (lists rank) → IsIn a (lists_below lists ranks)
 joined_in lists zero rank a low h = absurd (omega (arith, low))
 joined_in lists (suc ranks) rank a low h = elim (test_last rank ranks (omega (arith, low))) [
-  | inl e ↦ in_back a (joined lists ranks) (lists ranks) (let P : ℕ → Type 0 = λ r. IsIn a (lists r) in subst P e h)
-  | inr less ↦ in_front a (joined lists ranks) (lists ranks) (joined_in lists ranks rank a less h)
+  | inl e ↦ in_back a (lists_below lists ranks) (lists ranks) (let P : ℕ → Type 0 = λ r. IsIn a (lists r) in subst P e h)
+  | inr less ↦ in_front a (lists_below lists ranks) (lists ranks) (joined_in lists ranks rank a less h)
 ]
 
 -- lists whose names have the rank that they are given for
 pub sorted_joined : {A : Type 0} (name : A → Name) (lists : ℕ → List A) (ranks : ℕ)
-    → ((rank : ℕ) → AreSorted name (lists rank)) → ((rank : ℕ) (a : A) → IsIn a (lists rank) → (name a).rank ≡ rank) → AreSorted name (joined lists ranks)
+    → ((rank : ℕ) → AreSorted name (lists rank)) → ((rank : ℕ) (a : A) → IsIn a (lists rank) → (name a).rank ≡ rank) → AreSorted name (lists_below lists ranks)
 sorted_joined name lists zero each own = tt
 sorted_joined name lists (suc ranks) each own =
-    sorted_append name (joined lists ranks) (lists ranks) (sorted_joined name lists ranks each own) (each ranks) (λ a b first second.
+    sorted_append name (lists_below lists ranks) (lists ranks) (sorted_joined name lists ranks each own) (each ranks) (λ a b first second.
     let given = in_joined lists ranks a first in
     let low = given.below in
     let one = own given.rank a given.given in
     let other = own ranks b second in
     inl (omega (arith, low, one, other)))
 
-pub joined-next : {A : Type 0} (lists : ℕ → List A) (ranks : ℕ) → joined lists (ranks + 1) ≡ joined lists ranks ++ lists ranks
-joined-next lists ranks = (let next : ranks + 1 ≡ suc ranks = omega arith in ap (joined lists) next)
+pub joined-next : {A : Type 0} (lists : ℕ → List A) (ranks : ℕ) → lists_below lists (ranks + 1) ≡ lists_below lists ranks ++ lists ranks
+joined-next lists ranks = (let next : ranks + 1 ≡ suc ranks = omega arith in ap (lists_below lists) next)

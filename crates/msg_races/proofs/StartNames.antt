@@ -2,6 +2,7 @@
 use Rattle.std.proofs.Common.{◌≡◌, ◌+◌, ◌++◌, ◌==◌, ◌∷◌, [], ℕ, suc, List, Option, Some, true, false, inl, inr, ap, append_assoc, length, length-append, slice_get, subst, sym, take, ◌∙◌, refl}
 use Rattle.std.proofs.lemmas.Bool.{and_from, and_parts, eq-eqb, eqb-true}
 use Rattle.std.proofs.Math.Seq.{take-append_seam}
+use Rattle.mpi_call.specs.Lists.{count_below}
 use Rattle.run_model.specs.declared.event.Event.{Event}
 use Rattle.run_model.specs.Pairs.{name_at}
 use Rattle.run_model.specs.Views.{is_start, starts_of, view_of}
@@ -9,7 +10,6 @@ use Rattle.run_model.proofs.Positions.{name_parts}
 use Rattle.run_model.proofs.StartLemmas.{starts_of-append}
 use Rattle.run_model.proofs.Views.{test_cases, view_of-append}
 use Rattle.causes.specs.Positions.{is_start_of, positions}
-use Rattle.causes.specs.Tables.{count_below}
 use Rattle.causes.proofs.PositionLemmas.{count_below-positions, positions-push}
 
 -- a rank has as many positions of starts as starts

@@ -21,20 +21,15 @@ same_way =
     (eq_of_both (on (λ (w : Way). w.receiver) ◌==◌)
     (on (λ (w : Way). w.tag) (option_eq nat_eq))))
 
--- the tag that a receive names, None for any
-abbrev pub tag_named : Tag → Option ℕ
-tag_named AnyTag = None
-tag_named (Is tag) = Some tag
-
 -- the receive's tag that names this
-abbrev pub tag_of : Option ℕ → Tag
-tag_of None = AnyTag
-tag_of (Some tag) = Is tag
+abbrev pub named_tag : Option ℕ → Tag
+named_tag None = AnyTag
+named_tag (Some tag) = Is tag
 
 -- the event is a Send that goes the way: a receive there from any sender accepts it
-abbrev pub goes : Way → Event → Bool
-goes way event =
-    is_start (event.call, event.reply) && ((event.rank == way.sender) && accepts way.receiver way.comm Any (tag_of way.tag) event.rank event.call)
+abbrev pub goes_way : Way → Event → Bool
+goes_way way event =
+    is_start (event.call, event.reply) && ((event.rank == way.sender) && accepts way.receiver way.comm Any (named_tag way.tag) event.rank event.call)
 
 -- the positions that a table has for a way
 abbrev pub sent_at : List (Way × List ℕ) → Way → List ℕ
@@ -42,4 +37,4 @@ sent_at table way = or_no_positions (lookup (same_way way) table)
 
 -- the positions of the Sends of these events, by their ways
 pub record AreSends (events : List Event) (table : List (Way × List ℕ)) : Type 0 where
-  pub each : (way : Way) → sent_at table way ≡ positions (goes way) 0 events
+  pub each : (way : Way) → sent_at table way ≡ positions (goes_way way) 0 events

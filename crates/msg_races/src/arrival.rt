@@ -1,9 +1,9 @@
 //! Wildcard receives that were completed.
 ghost use Rattle.std.specs.Prelude.{◌≡◌, slice_get};
+ghost use Rattle.mpi_call.specs.Acceptance.{tag_named};
 ghost use Rattle.msg_races.specs.Listing.{arrival_by, arrival_in, way_from};
-ghost use Rattle.msg_races.specs.Ways.{tag_named};
 
-use crate::completions::Completion;
+use crate::completions::ReceiveCompletion;
 use crate::names::Name;
 use crate::sends::Way;
 use mpi_call::call::{Call, Comm, Source, Tag};
@@ -21,7 +21,7 @@ pub struct Arrival {
 }
 
 /// The receive of a start with this call, if it is a wildcard receive that was completed.
-fn arrival_by(name: Name, call: &Call, completion: Option<Completion>) -> Option<Arrival>
+fn arrival_by(name: Name, call: &Call, completion: Option<ReceiveCompletion>) -> Option<Arrival>
     ensures { result ≡ arrival_by name call.now completion }
 {
     let Call::Post {
@@ -49,7 +49,7 @@ pub fn arrival_at(
     events: &[Event],
     name: Name,
     place: u32,
-    completion: Option<Completion>,
+    completion: Option<ReceiveCompletion>,
 ) -> Option<Arrival>
     ensures { result ≡ arrival_in name (slice_get events.now place) completion }
 {

@@ -2,7 +2,7 @@
 ghost use Rattle.std.specs.Map.{lookup};
 ghost use Rattle.std.specs.Prelude.{◌≡◌, ◌<◌, ◌^◌, ◌+◌, ◌++◌, ◌∷◌, [], OnOk, length};
 ghost use Rattle.msg_races.specs.declared.names.Name.{Name as NameSpec};
-ghost use Rattle.msg_races.specs.Completions.{AreCompletions, after_got, after_items, after_reply};
+ghost use Rattle.msg_races.specs.inside.Completions.{AreCompletions, completion_after_got, completion_after_items, completion_after_reply};
 ghost use Rattle.msg_races.specs.Names.{same_start};
 
 use crate::names::Name;
@@ -15,7 +15,7 @@ use std::marker::Model;
 
 /// The completion of a receive: the position of its event, and the Send that was taken.
 #[derive(Clone, Copy)]
-pub struct Completion {
+pub struct ReceiveCompletion {
     pub at: u32,
     pub took: Name,
 }
@@ -23,15 +23,15 @@ pub struct Completion {
 /// The completions of receives, by the names of the receives.
 #[derive(Drop)]
 pub struct Completions {
-    values: IndexMap<Name, Completion>,
+    values: IndexMap<Name, ReceiveCompletion>,
 }
 
 impl Model for Completions {
     ghost use Rattle.std.specs.Prelude.{List};
-    ghost use Rattle.msg_races.specs.declared.completions.Completion.{Completion};
+    ghost use Rattle.msg_races.specs.declared.completions.ReceiveCompletion.{ReceiveCompletion};
     ghost use Rattle.msg_races.specs.declared.names.Name.{Name};
 
-    ghost Value = { List (Name × Completion) };
+    ghost Value = { List (Name × ReceiveCompletion) };
 
     ghost view = { λ s. s.values.entries };
 }
@@ -47,7 +47,7 @@ impl Completions {
     }
 
     /// The completion of a receive.
-    pub fn get(&self, name: &Name) -> Option<Completion>
+    pub fn get(&self, name: &Name) -> Option<ReceiveCompletion>
         ensures { result ≡ lookup (same_start name.now) self.now }
     {
         self.values.get(name).copied()
@@ -55,7 +55,7 @@ impl Completions {
 
     /// Adds what a rank's start gave, at a position.
     fn add_got(&mut self, at: u32, rank: u8, start: u32, got: &Got) -> Result<(), AllocError>
-        ensures { OnOk result ((name : NameSpec) → lookup (same_start name) self.new ≡ after_got name at rank start got.now (lookup (same_start name) self.old)) }
+        ensures { OnOk result ((name : NameSpec) → lookup (same_start name) self.new ≡ completion_after_got name at rank start got.now (lookup (same_start name) self.old)) }
     {
         let Got::Message {
             source,
@@ -70,7 +70,7 @@ impl Completions {
             start: *sent,
         };
         self.values
-            .insert(Name { rank, start }, Completion { at, took })?;
+            .insert(Name { rank, start }, ReceiveCompletion { at, took })?;
         Ok(())
     }
 
@@ -82,7 +82,7 @@ impl Completions {
         starts: &[u32],
         items: &[Item],
     ) -> Result<(), AllocError>
-        ensures { OnOk result ((name : NameSpec) → lookup (same_start name) self.new ≡ after_items name at rank starts.now items.now (lookup (same_start name) self.old)) }
+        ensures { OnOk result ((name : NameSpec) → lookup (same_start name) self.new ≡ completion_after_items name at rank starts.now items.now (lookup (same_start name) self.old)) }
     {
         let mut rest = items;
         while let [item, after @ ..] = rest {
@@ -95,7 +95,7 @@ impl Completions {
 
     /// Adds what a reply gave, at a position.
     fn add_reply(&mut self, at: u32, event: &Event) -> Result<(), AllocError>
-        ensures { OnOk result ((name : NameSpec) → lookup (same_start name) self.new ≡ after_reply name at event.now.rank event.now.call event.now.reply (lookup (same_start name) self.old)) }
+        ensures { OnOk result ((name : NameSpec) → lookup (same_start name) self.new ≡ completion_after_reply name at event.now.rank event.now.call event.now.reply (lookup (same_start name) self.old)) }
     {
         match &event.reply {
             Reply::Took(items) => match &event.call {

@@ -1,10 +1,10 @@
 //! The receives that are listed.
 ghost use Rattle.std.specs.Prelude.{◌≡◌, ◌<◌, ◌≤◌, ◌++◌, ◌∷◌, [], Err, OnOk};
 ghost use Rattle.msg_races.specs.declared.fault.RaceFault.TheVariants.{TooMany};
-ghost use Rattle.msg_races.specs.Names.{count_others, most_others};
+ghost use Rattle.msg_races.specs.Names.{count_racing, most_racing};
 
 use crate::fault::{MOST_OTHERS, RaceFault};
-use crate::receives::{Receive, Receives};
+use crate::receives::{Receives, WildcardReceive};
 use std::alloc::Global;
 use std::marker::Model;
 
@@ -18,14 +18,14 @@ pub struct Listing {
 
 impl Model for Listing {
     ghost use Rattle.std.specs.Prelude.{◌≡◌, ◌+◌, List};
-    ghost use Rattle.msg_races.specs.declared.receives.Receive.{Receive};
-    ghost use Rattle.msg_races.specs.Names.{count_others, most_others};
+    ghost use Rattle.msg_races.specs.declared.receives.WildcardReceive.{WildcardReceive};
+    ghost use Rattle.msg_races.specs.Names.{count_racing, most_racing};
 
-    ghost Value = { List Receive };
+    ghost Value = { List WildcardReceive };
 
     ghost view = { λ s. s.receives };
 
-    ghost invariant = { λ s. count_others s.receives + s.left ≡ most_others };
+    ghost invariant = { λ s. count_racing s.receives + s.left ≡ most_racing };
 }
 
 impl Listing {
@@ -40,9 +40,9 @@ impl Listing {
     }
 
     /// Adds a receive at the end, unless there are too many others then.
-    pub fn push(&mut self, receive: Receive) -> Result<(), RaceFault>
+    pub fn push(&mut self, receive: WildcardReceive) -> Result<(), RaceFault>
         ensures ok { OnOk result (self.new ≡ self.old ++ receive ∷ []) }
-        ensures many { result ≡ Err TooMany → most_others < count_others (self.old ++ receive ∷ []) }
+        ensures many { result ≡ Err TooMany → most_racing < count_racing (self.old ++ receive ∷ []) }
     {
         let others = receive.others.as_slice().len();
         if others > self.left as usize {
@@ -59,7 +59,7 @@ impl Listing {
     /// The receives in order.
     pub fn into_receives(self) -> Receives
         ensures receives { result ≡ self }
-        ensures few { count_others result ≤ most_others }
+        ensures few { count_racing result ≤ most_racing }
     {
         self.receives
     }

@@ -2,18 +2,18 @@
 ghost use Rattle.std.specs.Prelude.{◌≡◌, ◌<◌, ◌≤◌, ◌++◌, [], Err, IfOk, List, OnOk};
 ghost use Rattle.causes.specs.Clocks.{AreOfRanks};
 ghost use Rattle.msg_races.specs.declared.fault.RaceFault.TheVariants.{TooMany};
-ghost use Rattle.msg_races.specs.declared.receives.Receive.{Receive as ReceiveSpec};
-ghost use Rattle.msg_races.specs.Listing.{arrival_at, receive_of, received, receives_of};
-ghost use Rattle.msg_races.specs.Names.{count_others, most_others};
+ghost use Rattle.msg_races.specs.declared.receives.WildcardReceive.{WildcardReceive as ReceiveSpec};
+ghost use Rattle.msg_races.specs.Listing.{arrival_at, raced_receive, received, receives_of};
+ghost use Rattle.msg_races.specs.Names.{count_racing, most_racing};
 ghost use Rattle.msg_races.specs.Races.{AreRaces};
-ghost use Rattle.msg_races.specs.Seen.{IsSeen};
+ghost use Rattle.msg_races.specs.inside.Seen.{IsSeenByRaces};
 
 use crate::arrival::Arrival;
 use crate::fault::RaceFault;
 use crate::listing::Listing;
 use crate::names::Name;
-use crate::receives::{Receive, Receives};
-use crate::seen::{Seen, see};
+use crate::receives::{Receives, WildcardReceive};
+use crate::seen::{SeenHistory, see};
 use run_model::history::History;
 use std::alloc::{AllocError, Global};
 
@@ -22,8 +22,8 @@ use std::alloc::{AllocError, Global};
 pub fn races(alloc: Global, n: u8, history: &History) -> Result<Receives, RaceFault>
     requires ranks { AreOfRanks n history.now.events }
     ensures races { IfOk result (λ receives. AreRaces n history.now.events receives) }
-    ensures few { IfOk result (λ receives. count_others receives ≤ most_others) }
-    ensures many { result ≡ Err TooMany → (receives : List ReceiveSpec) × AreRaces n history.now.events receives × (most_others < count_others receives) }
+    ensures few { IfOk result (λ receives. count_racing receives ≤ most_racing) }
+    ensures many { result ≡ Err TooMany → (receives : List ReceiveSpec) × AreRaces n history.now.events receives × (most_racing < count_racing receives) }
 {
     let seen = see(alloc, n, history.as_slice())?;
     seen.causes.tells();
@@ -38,12 +38,12 @@ pub fn races(alloc: Global, n: u8, history: &History) -> Result<Receives, RaceFa
 fn add_rank(
     alloc: Global,
     listing: &mut Listing,
-    seen: &Seen<'_>,
+    seen: &SeenHistory<'_>,
     rank: u8,
 ) -> Result<(), RaceFault>
-    requires seen { IsSeen seen.now }
+    requires seen { IsSeenByRaces seen.now }
     ensures ok { OnOk result (listing.new ≡ listing.old ++ receives_of seen.now.causes rank) }
-    ensures many { result ≡ Err TooMany → most_others < count_others (listing.old ++ receives_of seen.now.causes rank) }
+    ensures many { result ≡ Err TooMany → most_racing < count_racing (listing.old ++ receives_of seen.now.causes rank) }
 {
     let starts = seen.causes.starts(rank);
     let mut rest = starts;
@@ -60,13 +60,13 @@ fn add_rank(
 fn add_start(
     alloc: Global,
     listing: &mut Listing,
-    seen: &Seen<'_>,
+    seen: &SeenHistory<'_>,
     name: Name,
     place: u32,
 ) -> Result<(), RaceFault>
-    requires seen { IsSeen seen.now }
+    requires seen { IsSeenByRaces seen.now }
     ensures ok { OnOk result (listing.new ≡ listing.old ++ received seen.now.causes (arrival_at seen.now.causes.events name place)) }
-    ensures many { result ≡ Err TooMany → most_others < count_others (listing.old ++ received seen.now.causes (arrival_at seen.now.causes.events name place)) }
+    ensures many { result ≡ Err TooMany → most_racing < count_racing (listing.old ++ received seen.now.causes (arrival_at seen.now.causes.events name place)) }
 {
     match seen.arrival(name, place) {
         Some(arrival) => listing.push(receive_of(alloc, seen, &arrival)?),
@@ -75,11 +75,15 @@ fn add_start(
 }
 
 /// A wildcard receive with its others.
-fn receive_of(alloc: Global, seen: &Seen<'_>, arrival: &Arrival) -> Result<Receive, AllocError>
-    requires seen { IsSeen seen.now }
-    ensures { IfOk result (λ receive. receive ≡ receive_of seen.now.causes arrival.now) }
+fn receive_of(
+    alloc: Global,
+    seen: &SeenHistory<'_>,
+    arrival: &Arrival,
+) -> Result<WildcardReceive, AllocError>
+    requires seen { IsSeenByRaces seen.now }
+    ensures { IfOk result (λ receive. receive ≡ raced_receive seen.now.causes arrival.now) }
 {
-    Ok(Receive {
+    Ok(WildcardReceive {
         rank: arrival.rank,
         start: arrival.start,
         took: arrival.took,

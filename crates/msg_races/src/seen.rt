@@ -2,8 +2,8 @@
 ghost use Rattle.std.specs.Prelude.{◌≡◌, ◌<◌, ◌^◌, ◌++◌, ℕ, IfOk, OnOk, length};
 ghost use Rattle.std.specs.List.Sorted.{IsNonDecreasingBy};
 ghost use Rattle.causes.specs.Clocks.{AreOfRanks, comes_before};
-ghost use Rattle.msg_races.specs.Listing.{arrival_at, open_names, others_below, others_from, unless_taken};
-ghost use Rattle.msg_races.specs.Seen.{IsSeen};
+ghost use Rattle.msg_races.specs.Listing.{arrival_at, open_names, racing_below, racing_from, unless_taken};
+ghost use Rattle.msg_races.specs.inside.Seen.{IsSeenByRaces};
 ghost use Rattle.msg_races.specs.Ways.{AreSends};
 
 use crate::arrival::{self, Arrival, way_from};
@@ -17,17 +17,17 @@ use std::alloc::{AllocError, Global};
 
 /// The clocks, Sends and completions of a history.
 #[derive(Drop)]
-pub struct Seen<'a> {
+pub struct SeenHistory<'a> {
     pub causes: Causes<'a>,
     pub sends: Sends,
     pub completions: Completions,
 }
 
 /// What is looked up in these events.
-pub fn see<'a>(alloc: Global, ranks: u8, events: &'a [Event]) -> Result<Seen<'a>, AllocError>
+pub fn see<'a>(alloc: Global, ranks: u8, events: &'a [Event]) -> Result<SeenHistory<'a>, AllocError>
     requires ranks { AreOfRanks ranks events.now }
     requires short { length events.now < 2 ^ 32 }
-    ensures seen { IfOk result (λ seen. IsSeen seen) }
+    ensures seen { IfOk result (λ seen. IsSeenByRaces seen) }
     ensures ranks { IfOk result (λ seen. seen.causes.ranks ≡ ranks) }
     ensures events { IfOk result (λ seen. seen.causes.events ≡ events.now) }
 {
@@ -37,7 +37,7 @@ pub fn see<'a>(alloc: Global, ranks: u8, events: &'a [Event]) -> Result<Seen<'a>
         sends.note(&events[..at], event)?;
         completions.note(&events[..at], event)?;
     }
-    Ok(Seen {
+    Ok(SeenHistory {
         causes: Causes::new(alloc, ranks, events)?,
         sends,
         completions,
@@ -84,7 +84,7 @@ fn push_sent(
     Ok(())
 }
 
-impl<'a> Seen<'a> {
+impl<'a> SeenHistory<'a> {
     /// Adds the others of a sender: the Sends that the completion is before are the last ones.
     fn push_others(
         &self,
@@ -92,8 +92,8 @@ impl<'a> Seen<'a> {
         arrival: &Arrival,
         sender: u8,
     ) -> Result<(), AllocError>
-        requires seen { IsSeen self.now }
-        ensures { OnOk result (others.new ≡ others.old ++ others_from self.now.causes arrival.now sender) }
+        requires seen { IsSeenByRaces self.now }
+        ensures { OnOk result (others.new ≡ others.old ++ racing_from self.now.causes arrival.now sender) }
     {
         let starts = self.causes.starts(sender);
         let sent = self.sends.get(&way_from(arrival, sender));
@@ -102,8 +102,8 @@ impl<'a> Seen<'a> {
 
     /// The others of a receive, by sender and start number.
     pub fn others_of(&self, alloc: Global, arrival: &Arrival) -> Result<Names, AllocError>
-        requires seen { IsSeen self.now }
-        ensures { IfOk result (λ others. others ≡ others_below self.now.causes arrival.now self.now.causes.ranks) }
+        requires seen { IsSeenByRaces self.now }
+        ensures { IfOk result (λ others. others ≡ racing_below self.now.causes arrival.now self.now.causes.ranks) }
     {
         let mut others = Names::new(alloc);
         for sender in 0..self.causes.ranks() {
@@ -114,7 +114,7 @@ impl<'a> Seen<'a> {
 
     /// The receive with this name, if it is a wildcard receive that was completed. Its Post stands at a position.
     pub fn arrival(&self, name: Name, place: u32) -> Option<Arrival>
-        requires seen { IsSeen self.now }
+        requires seen { IsSeenByRaces self.now }
         ensures { result ≡ arrival_at self.now.causes.events name place }
     {
         arrival::arrival_at(

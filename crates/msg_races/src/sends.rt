@@ -1,7 +1,7 @@
 //! The Sends of a history, by where they go.
 ghost use Rattle.std.specs.Prelude.{◌≡◌, ◌<◌, ◌^◌, ◌+◌, ◌++◌, ◌∷◌, [], ◌||◌, OnOk, if◌then◌else◌, length};
 ghost use Rattle.msg_races.specs.declared.sends.Way.{Way as WaySpec};
-ghost use Rattle.msg_races.specs.Ways.{AreSends, goes, same_way, sent_at};
+ghost use Rattle.msg_races.specs.Ways.{AreSends, goes_way, same_way, sent_at};
 
 use causes::positions::Positions;
 use indexmap::IndexMap;
@@ -111,7 +111,7 @@ impl Sends {
 
     /// Adds the position of an event that is a Send.
     fn push_send(&mut self, at: u32, event: &Event) -> Result<(), AllocError>
-        ensures { OnOk result ((way : WaySpec) → sent_at self.new way ≡ (if goes way event.now then sent_at self.old way ++ at ∷ [] else sent_at self.old way)) }
+        ensures { OnOk result ((way : WaySpec) → sent_at self.new way ≡ (if goes_way way event.now then sent_at self.old way ++ at ∷ [] else sent_at self.old way)) }
     {
         let Call::Send {
             comm,

@@ -5,7 +5,7 @@ use Rattle.run_model.specs.declared.event.Event.{Event}
 use Rattle.run_model.specs.Views.{View, is_start, starts_of, view_of}
 use Rattle.run_model.proofs.StartLemmas.{starts_of-append}
 use Rattle.run_model.proofs.Views.{length-view_of, test_cases, view_of-mine, view_of-other}
-use Rattle.other_picks.specs.Known.{AreCounts}
+use Rattle.other_picks.specs.inside.Known.{AreStartCounts}
 
 count_mine : (before : List Event) (event : Event) (rank : ℕ) → event.rank ≡ rank → is_start (event.call, event.reply) ≡ true
     → length (starts_of (view_of (before ++ event ∷ []) rank)) ≡ length (starts_of (view_of before rank)) + 1
@@ -28,7 +28,7 @@ zero_at zero k = refl
 zero_at (suc count) zero = refl
 zero_at (suc count) (suc k) = zero_at count k
 
-pub none_counted : (count : ℕ) → AreCounts [] (replicate count 0)
+pub none_counted : (count : ℕ) → AreStartCounts [] (replicate count 0)
 none_counted count = record { each = λ rank low. zero_at count rank }
 
 -- there are no more starts than events
@@ -42,7 +42,7 @@ pub starts_few : (before : List Event) (rank : ℕ) → length (starts_of (view_
 starts_few before rank = (let few = starts_short (view_of before rank) in let short = length-view_of before rank in omega arith)
 
 pub counted_start : (before : List Event) (event : Event) (counts : List ℕ) → length counts ≡ 256 → event.rank < 256 → is_start (event.call, event.reply) ≡ true
-    → AreCounts before counts → AreCounts (before ++ event ∷ []) (set counts event.rank (get_or counts event.rank 0 + 1))
+    → AreStartCounts before counts → AreStartCounts (before ++ event ∷ []) (set counts event.rank (get_or counts event.rank 0 + 1))
 counted_start before event counts wide below start are = record {
   each = λ rank low. elim (test_cases (event.rank == rank)) [
     | inl t ↦ (
@@ -59,6 +59,6 @@ counted_start before event counts wide below start are = record {
   ];
 }
 
-pub counted_rest : (before : List Event) (event : Event) (counts : List ℕ) → is_start (event.call, event.reply) ≡ false → AreCounts before counts
-    → AreCounts (before ++ event ∷ []) counts
+pub counted_rest : (before : List Event) (event : Event) (counts : List ℕ) → is_start (event.call, event.reply) ≡ false → AreStartCounts before counts
+    → AreStartCounts (before ++ event ∷ []) counts
 counted_rest before event counts idle are = record { each = λ rank low. are.each rank low ∙ sym (count_rest before event rank idle) }

@@ -6,25 +6,24 @@ use Rattle.mpi_call.specs.declared.call.Call.TheVariants.{Send, Post, Enter}
 use Rattle.mpi_call.specs.declared.call.Halt.{Halt}
 use Rattle.mpi_call.specs.declared.reply.Reply.{Reply}
 use Rattle.mpi_call.specs.declared.reply.Reply.TheVariants.{Done, NotYet, Took, Peeked, Stopped}
-use Rattle.mpi_call.specs.Calls.{is_starting}
+use Rattle.mpi_call.specs.Calls.{is_send, is_starting}
 use Rattle.run_model.specs.declared.event.Event.{Event}
 use Rattle.run_model.specs.Chosen.{halt_or}
 use Rattle.run_model.specs.Choice.{choice}
 use Rattle.run_model.specs.Due.{due}
 use Rattle.run_model.specs.Pairs.{Name, name_at}
-use Rattle.run_model.specs.Views.{is_done, is_start, view_of}
+use Rattle.run_model.specs.Views.{is_done, is_start, view_of, rank_of_event}
 use Rattle.run_model.proofs.Choosing.{IsOpenAt, choice_is, choice_is_none, choice_some}
 use Rattle.run_model.proofs.Positions.{name_parts}
-use Rattle.match_core.specs.declared.start.Start.{Start}
-use Rattle.match_core.specs.Histories.{IsChoice, IsOther, Knows, KnowsMore, KnowsPicked, SuitsAt, event_of}
-use Rattle.match_core.specs.Starts.{is_message, is_post, is_send}
+use Rattle.match_core.specs.declared.start.UnpairedStart.{UnpairedStart}
+use Rattle.match_core.specs.Histories.{IsChoice, IsNoMessageStart, KnowsUnpaired, KnowsMore, KnowsPicked, SuitsAt, new_start_event}
+use Rattle.match_core.specs.Starts.{is_message, is_post}
 use Rattle.picked_runs.specs.declared.turn.Pick.{Pick}
 use Rattle.picked_runs.specs.declared.turn.Pick.TheVariants.{First, Sender, Index}
 use Rattle.picked_runs.specs.Picks.{call_from, has_pick, is_offered, looks, picked_answer, picked_choice, picked_mate}
 use Rattle.picked_runs.specs.Picked.{IsPickedEvent}
 use Rattle.picked_runs.proofs.Narrowing.{suits_back, suits_on}
-use Rattle.other_picks.specs.Known.{IsEventOf}
-use Rattle.other_picks.specs.Others.{rank_in}
+use Rattle.other_picks.specs.inside.Known.{IsEventOf}
 
 -- ---- the matcher's choice is the machine's
 
@@ -109,12 +108,12 @@ no_message call send post = refl
 
 -- no start
 pub idle_other : (n : ℕ) (before : List Event) (event : Event) → IsEventOf n before event → is_start (event.call, event.reply) ≡ false
-    → (is_message event.call && is_done event.reply) ≡ false → IsOther event
+    → (is_message event.call && is_done event.reply) ≡ false → IsNoMessageStart event
 idle_other n before event is idle no_message = record { other = no_message; alone = idle_mate n before event is.pick is.picked idle }
 
 -- a start of no message
 pub enter_other : (n : ℕ) (before : List Event) (event : Event) → IsEventOf n before event → is_start (event.call, event.reply) ≡ true → is_message event.call ≡ false
-    → IsOther event
+    → IsNoMessageStart event
 enter_other n before event is start apart = record {
   other = rw apart;
   alone = start_mate n before event is.pick is.picked start
@@ -126,7 +125,7 @@ message_idle (Send comm dest tag ints sync) reply idle = idle
 message_idle (Post comm source tag room) reply idle = idle
 message_idle call reply idle = refl
 
-pub not_start : (n : ℕ) (before : List Event) (event : Event) → IsEventOf n before event → is_start (event.call, event.reply) ≡ false → IsOther event
+pub not_start : (n : ℕ) (before : List Event) (event : Event) → IsEventOf n before event → is_start (event.call, event.reply) ≡ false → IsNoMessageStart event
 not_start n before event is idle = idle_other n before event is idle (message_idle event.call event.reply idle)
 
 -- ---- sends
@@ -138,17 +137,17 @@ send_choice before rank (Send comm dest tag ints sync) (Index index) h = refl
 send_choice before rank call pick h = absurd (cc)
 
 -- what is known with a start's choice is known with the event, whose mate is that choice
-known_with : (before : List Event) (event : Event) (mate : Option ℕ) (starts : List Start) → event.reply ≡ Done → event.mate ≡ mate
-    → Knows (before ++ event_of event.rank event.call mate ∷ []) starts → Knows (before ++ event ∷ []) starts
+known_with : (before : List Event) (event : Event) (mate : Option ℕ) (starts : List UnpairedStart) → event.reply ≡ Done → event.mate ≡ mate
+    → KnowsUnpaired (before ++ new_start_event event.rank event.call mate ∷ []) starts → KnowsUnpaired (before ++ event ∷ []) starts
 known_with before event mate starts done same knows =
-    let with_mate : event_of event.rank event.call mate ≡ event_of event.rank event.call event.mate = ap (event_of event.rank event.call) (sym same) in
+    let with_mate : new_start_event event.rank event.call mate ≡ new_start_event event.rank event.call event.mate = ap (new_start_event event.rank event.call) (sym same) in
     let with_reply : event_with event Done event.mate ≡ event_with event event.reply event.mate = ap (λ r. event_with event r event.mate) (sym done) in
-    let is : event_of event.rank event.call mate ≡ event = with_mate ∙ with_reply in
-    let F : Event → Type 0 = λ e. Knows (before ++ e ∷ []) starts in
+    let is : new_start_event event.rank event.call mate ≡ event = with_mate ∙ with_reply in
+    let F : Event → Type 0 = λ e. KnowsUnpaired (before ++ e ∷ []) starts in
     subst F is knows
 
-pub known_send : (n : ℕ) (before : List Event) (event : Event) (mate : Option ℕ) (starts : List Start) → IsEventOf n before event → is_start (event.call, event.reply) ≡ true
-    → is_send event.call ≡ true → KnowsMore before (event_of event.rank event.call mate) starts → Knows (before ++ event ∷ []) starts
+pub known_send : (n : ℕ) (before : List Event) (event : Event) (mate : Option ℕ) (starts : List UnpairedStart) → IsEventOf n before event → is_start (event.call, event.reply) ≡ true
+    → is_send event.call ≡ true → KnowsMore before (new_start_event event.rank event.call mate) starts → KnowsUnpaired (before ++ event ∷ []) starts
 known_send n before event mate starts is start send more =
     known_with before event mate starts (start_done event start)
     (start_mate n before event is.pick is.picked start ∙ (send_choice before event.rank event.call is.pick send ∙ choice_same before event.rank event.call mate more.choice))
@@ -173,8 +172,8 @@ post_none n before rank (Post comm source tag room) (Index index) post offered n
 post_none n before rank call pick post offered none = absurd (cc)
 
 -- a receive without a mate
-pub known_post : (n : ℕ) (before : List Event) (event : Event) (mate : Option ℕ) (starts : List Start) → IsEventOf n before event → is_start (event.call, event.reply) ≡ true
-    → is_post event.call ≡ true → event.mate ≡ None → KnowsMore before (event_of event.rank event.call mate) starts → Knows (before ++ event ∷ []) starts
+pub known_post : (n : ℕ) (before : List Event) (event : Event) (mate : Option ℕ) (starts : List UnpairedStart) → IsEventOf n before event → is_start (event.call, event.reply) ≡ true
+    → is_post event.call ≡ true → event.mate ≡ None → KnowsMore before (new_start_event event.rank event.call mate) starts → KnowsUnpaired (before ++ event ∷ []) starts
 known_post n before event mate starts is start post alone more =
     let picked : picked_choice before event.rank event.call is.pick ≡ None = sym (start_mate n before event is.pick is.picked start) ∙ alone in
     known_with before event mate starts (start_done event start)
@@ -182,10 +181,10 @@ known_post n before event mate starts is start post alone more =
     more.knows
 
 -- the rank of the start at a position
-pub owner_is : (before : List Event) (at : ℕ) (name : Name) → name_at before at ≡ Some name → name.0 ≡ rank_in (slice_get before at)
+pub owner_is : (before : List Event) (at : ℕ) (name : Name) → name_at before at ≡ Some name → name.0 ≡ rank_of_event (slice_get before at)
 owner_is before at name there =
     let p = name_parts (take at before) (slice_get before at) name there in
-    sym (ap (λ (x : Name). x.0) p.name_is) ∙ sym (ap rank_in p.there)
+    sym (ap (λ (x : Name). x.0) p.name_is) ∙ sym (ap rank_of_event p.there)
 
 pub post_looks : (call : Call) → is_post call ≡ true → looks call ≡ true
 post_looks (Post comm source tag room) h = refl
@@ -222,9 +221,9 @@ first_of before rank call (Sender sender) at h found =
 
 -- so it is the choice among the messages of its sender
 sender_choice : (before : List Event) (rank : ℕ) (call : Call) (at : ℕ) → looks call ≡ true → IsFirst before rank call at
-    → choice before rank (call_from (rank_in (slice_get before at)) call) ≡ Some at
+    → choice before rank (call_from (rank_of_event (slice_get before at)) call) ≡ Some at
 sender_choice before rank call at h f =
-    let sender : ℕ = rank_in (slice_get before at) in
+    let sender : ℕ = rank_of_event (slice_get before at) in
     let own : f.is_open.name.0 ≡ sender = owner_is before at f.is_open.name f.is_open.there in
     choice_is before rank (call_from sender call) at (record {
       chosen = narrow before rank sender call at f.is_open own;
@@ -232,19 +231,19 @@ sender_choice before rank call at h f =
     })
 
 -- a receive with a mate
-pub known_paired : (n : ℕ) (before : List Event) (event : Event) (at : ℕ) (found : Option ℕ) (starts : List Start) → IsEventOf n before event
+pub known_paired : (n : ℕ) (before : List Event) (event : Event) (at : ℕ) (found : Option ℕ) (starts : List UnpairedStart) → IsEventOf n before event
     → is_start (event.call, event.reply) ≡ true → is_post event.call ≡ true → event.mate ≡ Some at
-    → KnowsPicked before event.rank event.call (rank_in (slice_get before at)) starts found → Knows (before ++ event ∷ []) starts
+    → KnowsPicked before event.rank event.call (rank_of_event (slice_get before at)) starts found → KnowsUnpaired (before ++ event ∷ []) starts
 known_paired n before event at None starts is start post mate knows =
     let looked = post_looks event.call post in
     let picked = sym (start_mate n before event is.pick is.picked start) ∙ mate in
     let one = sender_choice before event.rank event.call at looked (first_of before event.rank event.call is.pick at looked picked) in
-    let none = choice_same before event.rank (call_from (rank_in (slice_get before at)) event.call) None knows.0 in
+    let none = choice_same before event.rank (call_from (rank_of_event (slice_get before at)) event.call) None knows.0 in
     let no : Some at ≡ None = sym one ∙ none in
     absurd (cc)
 known_paired n before event at (Some other) starts is start post mate knows =
     let looked = post_looks event.call post in
     let picked = sym (start_mate n before event is.pick is.picked start) ∙ mate in
     let one = sender_choice before event.rank event.call at looked (first_of before event.rank event.call is.pick at looked picked) in
-    let found = choice_same before event.rank (call_from (rank_in (slice_get before at)) event.call) (Some other) knows.choice in
+    let found = choice_same before event.rank (call_from (rank_of_event (slice_get before at)) event.call) (Some other) knows.choice in
     known_with before event (Some other) starts (start_done event start) (mate ∙ (sym one ∙ found)) knows.knows

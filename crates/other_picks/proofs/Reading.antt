@@ -10,18 +10,18 @@ use Rattle.mpi_call.specs.declared.reply.Reply.TheVariants.{Done}
 use Rattle.run_model.specs.declared.event.Event.{Event}
 use Rattle.run_model.specs.Due.{due}
 use Rattle.run_model.specs.Lists.{world}
-use Rattle.run_model.specs.Views.{is_start, starts_of, view_of}
+use Rattle.run_model.specs.Views.{is_start, starts_of, view_of, rank_of_event}
 use Rattle.run_model.proofs.CommunicatorLaws.{world-last}
 use Rattle.run_model.proofs.Views.{test_cases}
 use Rattle.picked_runs.specs.declared.turn.Pick.{Pick}
 use Rattle.picked_runs.specs.declared.turn.Pick.TheVariants.{Sender}
 use Rattle.picked_runs.specs.Picks.{has_pick}
 use Rattle.picked_runs.specs.Picked.{ArePicked, later_picks, next_pick}
-use Rattle.other_picks.specs.declared.listing.Receive.{Receive}
+use Rattle.other_picks.specs.declared.listing.PairedReceive.{PairedReceive}
 use Rattle.other_picks.specs.declared.listing.Wildcard.{Wildcard}
 use Rattle.other_picks.specs.declared.other.OtherPick.{OtherPick}
-use Rattle.other_picks.specs.Known.{IsEventOf, any_in, could_take, with_sender}
-use Rattle.other_picks.specs.Others.{could_pick, other_of, others_at, others_by, others_from, rank_in}
+use Rattle.other_picks.specs.inside.Known.{IsEventOf, any_in, could_take, with_sender}
+use Rattle.other_picks.specs.Others.{could_pick, other_of, others_at, others_by, others_from}
 use Rattle.other_picks.proofs.Cutting.{take_more}
 use Rattle.other_picks.proofs.Following.{idle_mate, none_due, start_done}
 use Rattle.other_picks.proofs.Looking.{offered_by}
@@ -104,13 +104,13 @@ mate_done n before event mate is some =
     ]
 
 -- the receive that an event is
-abbrev pub receive_of : List Event → Event → ℕ → Tag → ℕ → Receive
+abbrev pub receive_of : List Event → Event → ℕ → Tag → ℕ → PairedReceive
 receive_of before event comm tag mate = record {
   at = length before;
   rank = event.rank;
   start = length (starts_of (view_of before event.rank));
   wildcard = record { comm = comm; tag = tag };
-  took = rank_in (slice_get before mate);
+  took = rank_of_event (slice_get before mate);
 }
 
 takes_same : (n : ℕ) (before : List Event) (event : Event) (comm : ℕ) (tag : Tag) (room mate : ℕ) → IsEventOf n before event → event.call ≡ Post comm Any tag room
@@ -119,7 +119,7 @@ takes_same n before event comm tag room mate is call_is some sender =
     let none = none_due n before event is.pick is.picked (mate_done n before event mate is some) in
     let free : due n before event.rank (view_of before event.rank) (Post comm Any tag room) ≡ None =
     ap (λ c. due n before event.rank (view_of before event.rank) c) (sym call_is) ∙ none in
-    ap (λ b. not (sender == rank_in (slice_get before mate)) && b)
+    ap (λ b. not (sender == rank_of_event (slice_get before mate)) && b)
     (sym (ap (λ c. has_pick n before event.rank c (Sender sender)) call_is ∙ offered_by n before event.rank comm tag room sender free))
 
 pub receive_listed : (n : ℕ) (before : List Event) (event : Event) (comm : ℕ) (tag : Tag) (room mate : ℕ) → IsEventOf n before event → event.call ≡ Post comm Any tag room

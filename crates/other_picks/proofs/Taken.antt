@@ -13,10 +13,10 @@ use Rattle.mpi_call.specs.declared.reply.Reply.TheVariants.{Done, NotYet, Took, 
 use Rattle.mpi_call.specs.Lists.{IsIn}
 use Rattle.run_model.specs.declared.event.Event.{Event}
 use Rattle.run_model.specs.Chosen.{order_of}
-use Rattle.run_model.specs.Due.{halt_at, halt_in, halted, is_full, or_else}
+use Rattle.run_model.specs.Due.{halt_at, halt_of_reply, halted, is_full, or_else}
 use Rattle.run_model.specs.Lists.{IsPrefixOf, world}
 use Rattle.run_model.specs.MachineLaws.{has_stuck, is_stuck_reply}
-use Rattle.run_model.specs.Views.{Next, is_start, view_of}
+use Rattle.run_model.specs.Views.{Next, is_start, view_of, rank_of_event}
 use Rattle.run_model.proofs.Choosing.{choice_some}
 use Rattle.run_model.proofs.RunLaws.{IsRun-event, IsRun-front}
 use Rattle.match_core.specs.Starts.{is_post}
@@ -26,11 +26,11 @@ use Rattle.picked_runs.specs.declared.turn.Turn.{Turn}
 use Rattle.picked_runs.specs.PickLaws.{OtherPickIsTaken, PicksAreTurns}
 use Rattle.picked_runs.specs.Picks.{call_from, has_pick, picked_choice, picked_event, picked_reply}
 use Rattle.picked_runs.specs.Picked.{ArePicked, IsPicked, later_picks}
-use Rattle.picked_runs.specs.Turns.{IsTaken, IsTurnOf, turns_of}
+use Rattle.picked_runs.specs.Turns.{IsRunByTurns, IsTurnOf, turns_of}
 use Rattle.picked_runs.proofs.Allowing.{pick_there}
 use Rattle.other_picks.specs.declared.other.OtherPick.{OtherPick}
 use Rattle.other_picks.specs.OtherLaws.{IsTakenOtherwise, OthersAreTaken, OthersAreTurns, turns_to}
-use Rattle.other_picks.specs.Others.{could_pick, other_of, others_at, others_by, others_from, rank_in}
+use Rattle.other_picks.specs.Others.{could_pick, other_of, others_at, others_by, others_from}
 use Rattle.other_picks.proofs.Following.{owner_is, post_looks, widen}
 
 -- ---- where an other pick comes from
@@ -130,7 +130,7 @@ found_in n before (event ∷ events) other among = elim (in_both other (others_a
 
 -- ---- before a receive that could have picked otherwise nothing has stopped
 
-no_stuck : (reply : Reply) → halt_in reply ≡ None → is_stuck_reply reply ≡ false
+no_stuck : (reply : Reply) → halt_of_reply reply ≡ None → is_stuck_reply reply ≡ false
 no_stuck Done h = refl
 no_stuck NotYet h = refl
 no_stuck (Took items) h = refl
@@ -144,7 +144,7 @@ none_first (Some halt) other h = absurd (cc)
 none_stuck : (events : List Event) → halted events ≡ None → has_stuck events ≡ false
 none_stuck [] h = refl
 none_stuck (event ∷ events) h =
-    let parts = none_first (halt_in event.reply) (halted events) h in
+    let parts = none_first (halt_of_reply event.reply) (halted events) h in
     let here = no_stuck event.reply parts.0 in
     let later = none_stuck events parts.1 in
     rw (here, later)
@@ -156,15 +156,15 @@ mate_some false o at h = absurd (cc)
 
 -- another sender's message is another mate
 differs : (n : ℕ) (before : List Event) (receive : Event) (mate sender : ℕ) → is_post receive.call ≡ true → receive.mate ≡ Some mate
-    → (sender == rank_in (slice_get before mate)) ≡ false → (picked_event n before receive.rank receive.call (Sender sender)).mate ≢ receive.mate
+    → (sender == rank_of_event (slice_get before mate)) ≡ false → (picked_event n before receive.rank receive.call (Sender sender)).mate ≢ receive.mate
 differs n before receive mate sender post some apart = λ e.
     let same : (picked_event n before receive.rank receive.call (Sender sender)).mate ≡ Some mate = e ∙ some in
     let chosen : picked_choice before receive.rank receive.call (Sender sender) ≡ Some mate =
     mate_some (is_start (receive.call, picked_reply n before receive.rank receive.call (Sender sender))) (picked_choice before receive.rank receive.call (Sender sender)) mate same in
     let c = choice_some before receive.rank (call_from sender receive.call) mate chosen in
     let wide = widen before receive.rank sender receive.call mate (post_looks receive.call post) c.chosen in
-    let owner : sender ≡ rank_in (slice_get before mate) = sym wide.1 ∙ owner_is before mate wide.0.name wide.0.there in
-    let yes : (sender == rank_in (slice_get before mate)) ≡ true = eq-eqb sender (rank_in (slice_get before mate)) owner in
+    let owner : sender ≡ rank_of_event (slice_get before mate) = sym wide.1 ∙ owner_is before mate wide.0.name wide.0.there in
+    let yes : (sender == rank_of_event (slice_get before mate)) ≡ true = eq-eqb sender (rank_of_event (slice_get before mate)) owner in
     let no : true ≡ false = sym yes ∙ apart in
     cc
 
@@ -192,19 +192,19 @@ taken_at : (next : Next) (n : ℕ) (picks : List Pick) (front after : List Event
 taken_at next n picks front after receive other law is o =
     let turn : Turn = record { rank = receive.rank; pick = Sender o.sender } in
     let event = IsRun-event next n front after receive is.run in
-    let parts = and_parts (not (o.sender == rank_in (slice_get front o.mate))) (has_pick n front receive.rank receive.call (Sender o.sender)) o.could in
+    let parts = and_parts (not (o.sender == rank_of_event (slice_get front o.mate))) (has_pick n front receive.rank receive.call (Sender o.sender)) o.could in
     let there = pick_there n front receive.rank receive.call (Sender o.sender) (λ e. cc) parts.1 in
     let free : has_stuck front ≡ false =
     none_stuck front (none_first (halted front) (if is_full front then Some Limit else halt_at n front receive.rank (view_of front receive.rank) receive.call) there.none).0 in
     let seam : take (length front) (front ++ receive ∷ after) ≡ front = take-append_seam front (receive ∷ after) in
-    let B : List Event → Type 0 = λ l. (events : List Event) → IsTaken next n (turns_of (order_of l) picks ++ turn ∷ []) events
+    let B : List Event → Type 0 = λ l. (events : List Event) → IsRunByTurns next n (turns_of (order_of l) picks ++ turn ∷ []) events
     → IsPrefixOf (l ++ picked_event n l receive.rank receive.call (Sender o.sender) ∷ []) events in
     let D : List Event → Type 0 = λ l. (picked_event n l receive.rank receive.call (Sender o.sender)).mate ≢ receive.mate in
     record {
       receive = receive;
       there = get_seam front after receive;
       rank = refl;
-      differs = subst D (sym seam) (differs n front receive o.mate o.sender o.post o.mate_is (not_false (o.sender == rank_in (slice_get front o.mate)) parts.0));
+      differs = subst D (sym seam) (differs n front receive o.mate o.sender o.post o.mate_is (not_false (o.sender == rank_of_event (slice_get front o.mate)) parts.0));
       begins = subst B (sym seam) (λ events taken.
           law picks front events receive.rank o.sender receive.call (is_picked_front next n picks front (receive ∷ after) is) free event.call parts.1 taken);
     }

@@ -1,3 +1,3 @@
 pub mod Others
 pub mod OtherLaws
-pub mod Known
+pub mod inside

@@ -11,7 +11,7 @@ use Rattle.picked_runs.specs.declared.turn.Pick.TheVariants.{Sender}
 use Rattle.picked_runs.specs.declared.turn.Turn.{Turn}
 use Rattle.picked_runs.specs.Picks.{picked_event}
 use Rattle.picked_runs.specs.Picked.{IsPicked}
-use Rattle.picked_runs.specs.Turns.{IsTaken, IsTurnOf, turns_of}
+use Rattle.picked_runs.specs.Turns.{IsRunByTurns, IsTurnOf, turns_of}
 use Rattle.other_picks.specs.declared.other.OtherPick.{OtherPick}
 use Rattle.other_picks.specs.Others.{others_of}
 
@@ -21,17 +21,17 @@ turns_to run picks other =
     turns_of (order_of (take other.at run)) picks ++ (record { rank = other.rank; pick = Sender other.sender }) ∷ []
 
 -- the receive of an other pick, as it picks the other sender
-abbrev pub otherwise : ℕ → List Event → OtherPick → Event → Event
-otherwise n run other receive = picked_event n (take other.at run) receive.rank receive.call (Sender other.sender)
+abbrev pub picked_otherwise : ℕ → List Event → OtherPick → Event → Event
+picked_otherwise n run other receive = picked_event n (take other.at run) receive.rank receive.call (Sender other.sender)
 
 -- what its turns record begins with the events of the run before the receive, and then the receive with another mate than in the run
 pub record IsTakenOtherwise (next : Next) (n : ℕ) (picks : List Pick) (run : List Event) (other : OtherPick) : Type 0 where
   pub receive : Event
   pub there : slice_get run other.at ≡ Some receive
   pub rank : receive.rank ≡ other.rank
-  pub differs : (otherwise n run other receive).mate ≢ receive.mate
-  pub begins : (events : List Event) → IsTaken next n (turns_to run picks other) events
-      → IsPrefixOf (take other.at run ++ otherwise n run other receive ∷ []) events
+  pub differs : (picked_otherwise n run other receive).mate ≢ receive.mate
+  pub begins : (events : List Event) → IsRunByTurns next n (turns_to run picks other) events
+      → IsPrefixOf (take other.at run ++ picked_otherwise n run other receive ∷ []) events
 
 -- so it is of each other pick of a run
 abbrev pub OthersAreTaken : Next → ℕ → Type 0

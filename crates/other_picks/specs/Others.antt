@@ -1,27 +1,22 @@
 -- The other picks of a run: of each receive from any source that was paired when it was posted, the senders that it could have taken its
 -- message from, and did not.
 -- (MPI 3.1, Point-to-Point Communication, "Blocking Receive": `MPI_ANY_SOURCE`.)
-use Rattle.std.specs.Prelude.{◌≡◌, ℕ, List, [], ◌∷◌, ◌++◌, Option, Some, None, Bool, not, ◌&&◌, ◌==◌, filter, length, map, slice_get}
+use Rattle.std.specs.Prelude.{◌≡◌, ℕ, List, [], ◌∷◌, ◌++◌, Option, Some, Bool, not, ◌&&◌, ◌==◌, filter, length, map, slice_get}
 use Rattle.mpi_call.specs.declared.call.Call.{Call}
 use Rattle.mpi_call.specs.declared.call.Call.TheVariants.{Post}
 use Rattle.mpi_call.specs.declared.call.Source.TheVariants.{Any}
 use Rattle.mpi_call.specs.Lists.{IsIn}
 use Rattle.run_model.specs.declared.event.Event.{Event}
 use Rattle.run_model.specs.Lists.{world}
-use Rattle.run_model.specs.Views.{starts_of, view_of}
+use Rattle.run_model.specs.Views.{starts_of, view_of, rank_of_event}
 use Rattle.picked_runs.specs.declared.turn.Pick.TheVariants.{Sender}
 use Rattle.picked_runs.specs.Picks.{has_pick}
 use Rattle.other_picks.specs.declared.other.OtherPick.{OtherPick}
 
--- the rank of an event, 0 where there is none
-abbrev pub rank_in : Option Event → ℕ
-rank_in None = 0
-rank_in (Some event) = event.rank
-
 -- an event could have picked this sender, which is not that of its mate
 abbrev pub could_pick : ℕ → List Event → Event → ℕ → ℕ → Bool
 could_pick n before event mate sender =
-    not (sender == rank_in (slice_get before mate)) && has_pick n before event.rank event.call (Sender sender)
+    not (sender == rank_of_event (slice_get before mate)) && has_pick n before event.rank event.call (Sender sender)
 
 -- a sender for an event, with the name of the receive that the event is
 abbrev pub other_of : List Event → Event → ℕ → OtherPick

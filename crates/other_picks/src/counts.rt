@@ -1,6 +1,6 @@
 //! How many starts each rank has made.
 ghost use Rattle.std.specs.Prelude.{◌≡◌, ◌<◌, ◌+◌, ◌^◌, ◌++◌, ◌∷◌, [], IfOk, length, replicate, slice_index, slice_set};
-ghost use Rattle.other_picks.specs.Known.{AreCounts};
+ghost use Rattle.other_picks.specs.inside.Known.{AreStartCounts};
 
 use run_model::event::Event;
 use run_model::starts::is_start;
@@ -29,7 +29,7 @@ impl Model for StartCounts {
 impl StartCounts {
     /// No events.
     pub fn new(alloc: Global) -> Result<Self, AllocError>
-        ensures { IfOk result (AreCounts []) }
+        ensures { IfOk result (AreStartCounts []) }
     {
         let counts = zeros(alloc, RANKS)?;
         Ok(StartCounts { counts })
@@ -46,9 +46,9 @@ impl StartCounts {
 
     /// Counts the next event.
     pub fn note(&mut self, before: &[Event], event: &Event)
-        requires counts { AreCounts before.now self.old }
+        requires counts { AreStartCounts before.now self.old }
         requires short { length before.now + 1 < 2 ^ 32 }
-        ensures { AreCounts (before.now ++ event.now ∷ []) self.new }
+        ensures { AreStartCounts (before.now ++ event.now ∷ []) self.new }
     {
         if is_start(&event.call, &event.reply) {
             let count = self.get(event.rank) + 1;

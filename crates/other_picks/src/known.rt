@@ -2,13 +2,13 @@
 ghost use Rattle.std.specs.Prelude.{◌≡◌, ◌<◌, ◌+◌, ◌^◌, ◌++◌, ◌∷◌, [], IfOk, List, OnOk, IsTrue, false, true, is_some, length, slice_get};
 ghost use Rattle.mpi_call.specs.declared.call.Call.TheVariants.{Peek};
 ghost use Rattle.mpi_call.specs.declared.call.Source.TheVariants.{From};
+ghost use Rattle.mpi_call.specs.Calls.{is_send};
 ghost use Rattle.run_model.specs.declared.event.Event.{Event as EventSpec};
 ghost use Rattle.run_model.specs.Choice.{choice};
-ghost use Rattle.run_model.specs.Views.{is_start};
-ghost use Rattle.match_core.specs.Histories.{Knows};
-ghost use Rattle.match_core.specs.Starts.{is_post, is_send};
-ghost use Rattle.other_picks.specs.Known.{IsAnEvent, IsKnown};
-ghost use Rattle.other_picks.specs.Others.{rank_in};
+ghost use Rattle.run_model.specs.Views.{is_start, rank_of_event};
+ghost use Rattle.match_core.specs.Histories.{KnowsUnpaired};
+ghost use Rattle.match_core.specs.Starts.{is_post};
+ghost use Rattle.other_picks.specs.inside.Known.{IsAnEvent, IsKnown};
 
 use crate::counts::StartCounts;
 use match_core::matcher::Matcher;
@@ -19,18 +19,18 @@ use std::alloc::{AllocError, Global};
 
 /// The starts without a partner, and how many starts each rank has made.
 #[derive(Drop)]
-pub struct Known {
+pub struct UnpairedStarts {
     pub matcher: Matcher,
     pub starts: StartCounts,
 }
 
-impl Known {
+impl UnpairedStarts {
     /// No events.
     pub fn new(alloc: Global) -> Result<Self, AllocError>
         ensures { IfOk result (IsKnown []) }
     {
         let starts = StartCounts::new(alloc)?;
-        Ok(Known {
+        Ok(UnpairedStarts {
             matcher: Matcher::new(alloc),
             starts,
         })
@@ -51,7 +51,7 @@ impl Known {
 
 /// The rank of the event at a position.
 pub fn rank_at(events: &[Event], at: u32) -> u8
-    ensures { result ≡ rank_in (slice_get events.now at) }
+    ensures { result ≡ rank_of_event (slice_get events.now at) }
 {
     match events.get(at as usize) {
         Some(event) => event.rank,
@@ -61,7 +61,7 @@ pub fn rank_at(events: &[Event], at: u32) -> u8
 
 /// Whether there is a message of this sender for a receive of a rank. Takes no memory.
 pub fn has_message(known: &Matcher, rank: u8, comm: Comm, tag: Tag, sender: u8) -> bool
-    ensures { (before : List EventSpec) → Knows before known.now → result ≡ is_some (choice before rank (Peek comm (From sender) tag false)) }
+    ensures { (before : List EventSpec) → KnowsUnpaired before known.now → result ≡ is_some (choice before rank (Peek comm (From sender) tag false)) }
 {
     let probe = Call::Peek {
         comm,
@@ -74,10 +74,10 @@ pub fn has_message(known: &Matcher, rank: u8, comm: Comm, tag: Tag, sender: u8) 
 
 /// Pairs the next event as the run did.
 fn follow(known: &mut Matcher, before: &[Event], event: &Event) -> Result<(), AllocError>
-    requires known { Knows before.now known.old }
+    requires known { KnowsUnpaired before.now known.old }
     requires event { IsAnEvent before.now event.now }
     requires short { length before.now + 1 < 2 ^ 32 }
-    ensures { OnOk result (Knows (before.now ++ event.now ∷ []) known.new) }
+    ensures { OnOk result (KnowsUnpaired (before.now ++ event.now ∷ []) known.new) }
 {
     known.knows_on();
     if !is_start(&event.call, &event.reply) {
@@ -107,12 +107,12 @@ fn is_post(call: &Call) -> bool
 
 /// Pairs a new receive as the run did.
 fn follow_post(known: &mut Matcher, before: &[Event], event: &Event) -> Result<(), AllocError>
-    requires known { Knows before.now known.old }
+    requires known { KnowsUnpaired before.now known.old }
     requires event { IsAnEvent before.now event.now }
     requires post { IsTrue (is_post event.now.call) }
     requires start { is_start (event.now.call, event.now.reply) ≡ true }
     requires short { length before.now + 1 < 2 ^ 32 }
-    ensures { OnOk result (Knows (before.now ++ event.now ∷ []) known.new) }
+    ensures { OnOk result (KnowsUnpaired (before.now ++ event.now ∷ []) known.new) }
 {
     known.knows_on();
     match event.mate {

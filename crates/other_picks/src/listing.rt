@@ -4,14 +4,14 @@ ghost use Rattle.mpi_call.specs.declared.call.Call.TheVariants.{Post};
 ghost use Rattle.mpi_call.specs.declared.call.Source.TheVariants.{Any};
 ghost use Rattle.run_model.specs.declared.event.Event.{Event as EventSpec};
 ghost use Rattle.run_model.specs.Lists.{world};
-ghost use Rattle.match_core.specs.Histories.{Knows};
+ghost use Rattle.match_core.specs.Histories.{KnowsUnpaired};
 ghost use Rattle.picked_runs.specs.declared.turn.Pick.{Pick};
 ghost use Rattle.picked_runs.specs.Picked.{ArePicked};
 ghost use Rattle.other_picks.specs.declared.other.TheConstants.{MOST_OTHER_PICKS};
-ghost use Rattle.other_picks.specs.Known.{IsKnown, IsEventOf, any_in, could_take, with_sender};
+ghost use Rattle.other_picks.specs.inside.Known.{IsKnown, IsEventOf, any_in, could_take, with_sender};
 ghost use Rattle.other_picks.specs.Others.{AreApart, others_at, others_of};
 
-use crate::known::{Known, has_message, rank_at};
+use crate::known::{UnpairedStarts, has_message, rank_at};
 use crate::other::{OtherPick, OtherPicks};
 use match_core::matcher::Matcher;
 use mpi_call::call::{Call, Comm, Source, Tag};
@@ -26,7 +26,7 @@ pub fn other_picks(alloc: Global, n: u8, history: &History) -> Result<OtherPicks
     ensures apart { IfOk result AreApart }
 {
     let events = history.as_slice();
-    let mut known = Known::new(alloc)?;
+    let mut known = UnpairedStarts::new(alloc)?;
     let mut others = OtherPicks::new(alloc);
     for (at, event) in events.iter().enumerate() {
         add_others(&mut others, n, &known, &events[..at], event)?;
@@ -39,7 +39,7 @@ pub fn other_picks(alloc: Global, n: u8, history: &History) -> Result<OtherPicks
 fn add_others(
     others: &mut OtherPicks,
     n: u8,
-    known: &Known,
+    known: &UnpairedStarts,
     before: &[Event],
     event: &Event,
 ) -> Result<(), AllocError>
@@ -52,7 +52,7 @@ fn add_others(
     match any_in(&event.call) {
         Some(wildcard) => match event.mate {
             Some(mate) => {
-                let receive = Receive {
+                let receive = PairedReceive {
                     at: before.len() as u32,
                     rank: event.rank,
                     start: known.starts.get(event.rank),
@@ -94,7 +94,7 @@ fn any_in(call: &Call) -> Option<Wildcard>
 
 /// A receive from any source that was paired when it was posted.
 #[derive(Clone, Copy)]
-pub struct Receive {
+pub struct PairedReceive {
     pub at: u32,
     pub rank: u8,
     pub start: u32,
@@ -108,9 +108,9 @@ fn add_senders(
     others: &mut OtherPicks,
     n: u8,
     known: &Matcher,
-    receive: &Receive,
+    receive: &PairedReceive,
 ) -> Result<(), AllocError>
-    ensures { OnOk result ((before : List EventSpec) → Knows before known.now
+    ensures { OnOk result ((before : List EventSpec) → KnowsUnpaired before known.now
         → others.new ≡ take MOST_OTHER_PICKS (others.old ++ map (with_sender receive.now) (filter (could_take before receive.now) (world n 0)))) }
 {
     others.few();
@@ -124,10 +124,10 @@ fn add_senders(
 fn add_sender(
     others: &mut OtherPicks,
     known: &Matcher,
-    receive: &Receive,
+    receive: &PairedReceive,
     sender: u8,
 ) -> Result<(), AllocError>
-    ensures { OnOk result ((before : List EventSpec) → Knows before known.now
+    ensures { OnOk result ((before : List EventSpec) → KnowsUnpaired before known.now
         → others.new ≡ (if could_take before receive.now sender then take MOST_OTHER_PICKS (others.old ++ with_sender receive.now sender ∷ []) else others.old)) }
 {
     if sender == receive.took {

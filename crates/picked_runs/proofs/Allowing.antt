@@ -11,7 +11,7 @@ use Rattle.mpi_call.specs.declared.reply.Item.{Item}
 use Rattle.mpi_call.specs.declared.reply.Reply.{Reply}
 use Rattle.mpi_call.specs.Calls.{listed_by}
 use Rattle.run_model.specs.declared.event.Event.{Event}
-use Rattle.run_model.specs.Allowed.{AreChosen, IsAllowed, IsAllowedBy, IsAnswer, IsPeekAnswer, IsPeeked, IsStuck, IsTakeAnswer, IsTaken, can_go, first_long, flags_of, has_open, holds, is_prompt, taken_reply}
+use Rattle.run_model.specs.Allowed.{AreChosen, IsAllowed, IsAllowedBy, IsAnswer, IsPeekAnswer, IsPeeked, IsStuck, IsTakeAnswer, IsCompletionReply, can_go, first_long, flags_of, has_open, mode_holds, is_prompt, probe_of, taken_reply}
 use Rattle.run_model.specs.Choice.{choice}
 use Rattle.run_model.specs.Chosen.{halt_or, held_reply, items_at, peek_reply}
 use Rattle.run_model.specs.Due.{due}
@@ -19,7 +19,7 @@ use Rattle.run_model.specs.Pairs.{IsMatched}
 use Rattle.run_model.specs.Readiness.{is_ready}
 use Rattle.run_model.specs.Run.{IsEvent, IsRun}
 use Rattle.run_model.specs.Shape.{is_test}
-use Rattle.run_model.specs.Views.{Next, View, start_at, view_of}
+use Rattle.run_model.specs.Views.{Next, View, moment_at, moment_of, start_at, view_of}
 use Rattle.run_model.proofs.Along.{Along-keeps}
 use Rattle.run_model.proofs.ChosenAnswers.{GoesOr, reply_allowed}
 use Rattle.run_model.proofs.ChosenGots.{got_is}
@@ -71,7 +71,7 @@ found_some None h = absurd (cc)
 
 -- a receive or a probe that picks a sender
 record IsFine (stuck : Type 0) (n : ℕ) (before : List Event) (me : ℕ) (call : Call) (pick : Pick) : Type 0 where
-  answer : IsAnswer stuck n before me (view_of before me) call (picked_answer n before me (view_of before me) call pick)
+  answer : IsAnswer stuck (moment_at n before me) call (picked_answer n before me (view_of before me) call pick)
   prompt : is_prompt n before me (view_of before me) call ≡ true
 
 sender_fine : (stuck : Type 0) (n : ℕ) (before : List Event) (me : ℕ) (call : Call) (sender at : ℕ) → AllBelow n before → looks call ≡ true
@@ -79,47 +79,47 @@ sender_fine : (stuck : Type 0) (n : ℕ) (before : List Event) (me : ℕ) (call 
 sender_fine stuck n before me (Post comm source tag room) sender at all h found = record { answer = refl; prompt = refl }
 sender_fine stuck n before me (Peek comm source tag wait) sender at all h found =
     let there : has_open n before me comm source tag ≡ true = picked_there n before me comm source tag wait sender at all found in
-    let F : Option ℕ → Type 0 = λ o. IsPeeked before me comm source tag (peek_reply before wait o) in
+    let F : Option ℕ → Type 0 = λ o. IsPeeked before (probe_of me comm source tag) (peek_reply before wait o) in
     let one : F (choice before me (call_from sender (Peek comm source tag wait))) = subst F (sym found) (picked_found before me comm source tag wait sender at found) in
-    let G : Bool → Type 0 = λ b. IsPeekAnswer b stuck before me comm source tag wait (peek_reply before wait (choice before me (call_from sender (Peek comm source tag wait)))) in
+    let G : Bool → Type 0 = λ b. IsPeekAnswer b stuck before (probe_of me comm source tag) wait (peek_reply before wait (choice before me (call_from sender (Peek comm source tag wait)))) in
     record { answer = subst G (sym there) one; prompt = or_right (not wait) (has_open n before me comm source tag) there }
 sender_fine stuck n before me call sender at all h found = absurd (cc)
 
 -- a completion of one start that picks an index
 one_answer : (stuck : Type 0) (n : ℕ) (before : List Event) (me : ℕ) (starts : List ℕ) (mode : TakeMode) (index : ℕ) → IsMatched before
-    → picked_places mode (flags_of n before me (view_of before me) starts) (Index index) ≡ index ∷ []
-    → AreChosen mode (flags_of n before me (view_of before me) starts) (index ∷ [])
-    → holds mode (flags_of n before me (view_of before me) starts) ≡ true
-    → slice_get (flags_of n before me (view_of before me) starts) index ≡ Some true
-    → IsAnswer stuck n before me (view_of before me) (Take starts mode) (picked_answer n before me (view_of before me) (Take starts mode) (Index index))
+    → picked_places mode (flags_of (moment_at n before me) starts) (Index index) ≡ index ∷ []
+    → AreChosen mode (flags_of (moment_at n before me) starts) (index ∷ [])
+    → mode_holds mode (flags_of (moment_at n before me) starts) ≡ true
+    → slice_get (flags_of (moment_at n before me) starts) index ≡ Some true
+    → IsAnswer stuck (moment_at n before me) (Take starts mode) (picked_answer n before me (view_of before me) (Take starts mode) (Index index))
 one_answer stuck n before me starts mode index matched places chosen h flag =
     let own : View = view_of before me in
-    let flags : List Bool = flags_of n before me own starts in
+    let flags : List Bool = flags_of (moment_of n before me own) starts in
     let k : ℕ = slice_index starts index in
-    let ready : ℕ → Bool = λ s. is_ready n before me own s (start_at own s) in
+    let ready : ℕ → Bool = λ s. is_ready (moment_of n before me own) s (start_at own s) in
     let R : List ℕ → Bool → Reply = λ l b. (
-    let items : List Item = items_at n before me own starts l in
+    let items : List Item = items_at (moment_of n before me own) starts l in
     let taken : Reply = taken_reply me (first_long own starts items) items in
     if b then taken else held_reply (is_test mode)) in
-    let items : List Item = items_at n before me own starts (index ∷ []) in
-    let taken : IsTaken n before me own starts mode (R (index ∷ []) true) = record {
+    let items : List Item = items_at (moment_of n before me own) starts (index ∷ []) in
+    let taken : IsCompletionReply (moment_of n before me own) starts mode (R (index ∷ []) true) = record {
       items = items;
       chosen = chosen;
       gots = (got_is n before me k (start_at own k) matched refl (flag_there ready starts index true flag), tt);
       reply_is = refl;
     } in
-    let F : Bool → Type 0 = λ b. IsTakeAnswer b stuck n before me own starts mode (R (index ∷ []) b) in
-    let G : List ℕ → Type 0 = λ l. IsTakeAnswer (holds mode flags) stuck n before me own starts mode (R l (holds mode flags)) in
+    let F : Bool → Type 0 = λ b. IsTakeAnswer b stuck (moment_of n before me own) starts mode (R (index ∷ []) b) in
+    let G : List ℕ → Type 0 = λ l. IsTakeAnswer (mode_holds mode flags) stuck (moment_of n before me own) starts mode (R l (mode_holds mode flags)) in
     subst G (sym places) (subst F (sym h) taken)
 
 index_fine : (stuck : Type 0) (n : ℕ) (before : List Event) (me : ℕ) (call : Call) (index : ℕ) → IsMatched before → completes_one call ≡ true
-    → slice_get (flags_of n before me (view_of before me) (listed_by call)) index ≡ Some true → IsFine stuck n before me call (Index index)
+    → slice_get (flags_of (moment_at n before me) (listed_by call)) index ≡ Some true → IsFine stuck n before me call (Index index)
 index_fine stuck n before me (Take starts AnyOne) index matched h flag =
-    let flags : List Bool = flags_of n before me (view_of before me) starts in
+    let flags : List Bool = flags_of (moment_at n before me) starts in
     let any : list_any (λ x. x) flags ≡ true = any_there flags index flag in
-    record { answer = one_answer stuck n before me starts AnyOne index matched refl (index, refl, flag) any flag; prompt = or_right false (holds AnyOne flags) any }
+    record { answer = one_answer stuck n before me starts AnyOne index matched refl (index, refl, flag) any flag; prompt = or_right false (mode_holds AnyOne flags) any }
 index_fine stuck n before me (Take starts TestAny) index matched h flag =
-    let flags : List Bool = flags_of n before me (view_of before me) starts in
+    let flags : List Bool = flags_of (moment_at n before me) starts in
     let any : list_any (λ x. x) flags ≡ true = any_there flags index flag in
     record { answer = one_answer stuck n before me starts TestAny index matched refl (index, refl, flag) any flag; prompt = refl }
 index_fine stuck n before me call index matched h flag = absurd (cc)
@@ -132,7 +132,7 @@ pick_fine stuck n before me call (Sender sender) matched all apart h =
     let found = found_some (picked_choice before me call (Sender sender)) parts.1 in
     sender_fine stuck n before me call sender found.0 all parts.0 found.1
 pick_fine stuck n before me call (Index index) matched all apart h =
-    let flags : List Bool = flags_of n before me (view_of before me) (listed_by call) in
+    let flags : List Bool = flags_of (moment_at n before me) (listed_by call) in
     let parts = and_parts (completes_one call) (is_ready_at flags index) h in
     index_fine stuck n before me call index matched parts.0 (ready_there flags index parts.1)
 
@@ -142,7 +142,7 @@ pick_allowed next n before me call pick matched all apart h =
     let own : View = view_of before me in
     let there = pick_there n before me call pick apart h in
     let fine = pick_fine (IsStuck next n before) n before me call pick matched all apart there.offered in
-    let F : Option Halt → Type 0 = λ o. IsAllowedBy o (IsStuck next n before) n before me own call (halt_or o (picked_answer n before me own call pick)) in
+    let F : Option Halt → Type 0 = λ o. IsAllowedBy o (IsStuck next n before) (moment_of n before me own) call (halt_or o (picked_answer n before me own call pick)) in
     subst F (sym there.none) fine.answer
 
 first_allowed : (next : Next) (n : ℕ) (before : List Event) (me : ℕ) (call : Call) → IsMatched before → AllBelow n before

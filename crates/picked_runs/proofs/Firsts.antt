@@ -7,13 +7,13 @@ use Rattle.mpi_call.specs.declared.call.TakeMode.TheVariants.{All, Any as AnyOne
 use Rattle.mpi_call.specs.declared.reply.Item.{Item}
 use Rattle.mpi_call.specs.declared.reply.Reply.{Reply}
 use Rattle.run_model.specs.declared.event.Event.{Event}
-use Rattle.run_model.specs.Allowed.{first_long, flags_of, holds, taken_reply}
-use Rattle.run_model.specs.Choice.{chosen_places, mate_of}
+use Rattle.run_model.specs.Allowed.{first_long, flags_of, mode_holds, taken_reply}
+use Rattle.run_model.specs.Choice.{chosen_places, chosen_mate}
 use Rattle.run_model.specs.Chosen.{IsChosenEvent, chosen_answer, chosen_event, halt_or, held_reply, items_at}
 use Rattle.run_model.specs.Due.{due}
 use Rattle.run_model.specs.Lists.{Along}
 use Rattle.run_model.specs.Shape.{is_test}
-use Rattle.run_model.specs.Views.{Next, View, view_of}
+use Rattle.run_model.specs.Views.{Next, View, moment_of, view_of}
 use Rattle.picked_runs.specs.declared.turn.Pick.TheVariants.{First}
 use Rattle.picked_runs.specs.Picks.{picked_answer, picked_event, picked_places}
 use Rattle.picked_runs.specs.Picked.{ArePicked}
@@ -29,11 +29,11 @@ first_places TestAny flags = refl
 
 pub first_answer : (n : ℕ) (before : List Event) (me : ℕ) (own : View) (call : Call) → picked_answer n before me own call First ≡ chosen_answer n before me own call
 first_answer n before me own (Take starts mode) =
-    let flags : List Bool = flags_of n before me own starts in
+    let flags : List Bool = flags_of (moment_of n before me own) starts in
     let R : List ℕ → Reply = λ places. (
-    let items : List Item = items_at n before me own starts places in
+    let items : List Item = items_at (moment_of n before me own) starts places in
     let taken : Reply = taken_reply me (first_long own starts items) items in
-    if holds mode flags then taken else held_reply (is_test mode)) in
+    if mode_holds mode flags then taken else held_reply (is_test mode)) in
     ap R (first_places mode flags)
 first_answer n before me own (Peek comm source tag wait) = refl
 first_answer n before me own (Send comm dest tag ints sync) = refl
@@ -45,7 +45,7 @@ first_answer n before me own End = refl
 
 pub first_event : (n : ℕ) (before : List Event) (me : ℕ) (call : Call) → picked_event n before me call First ≡ chosen_event n before me call
 first_event n before me call =
-    let E : Reply → Event = λ r. record { rank = me; call = call; reply = r; mate = mate_of before me call r } in
+    let E : Reply → Event = λ r. record { rank = me; call = call; reply = r; mate = chosen_mate before me call r } in
     ap (λ a. E (halt_or (due n before me (view_of before me) call) a)) (first_answer n before me (view_of before me) call)
 
 chosen_along : (n : ℕ) (before events : List Event) → ArePicked n before [] events → Along (IsChosenEvent n) before events

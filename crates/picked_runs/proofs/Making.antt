@@ -12,7 +12,7 @@ use Rattle.run_model.specs.Due.{due}
 use Rattle.run_model.specs.Lists.{Along}
 use Rattle.run_model.specs.Pairs.{IsMatched}
 use Rattle.run_model.specs.Run.{IsEvent}
-use Rattle.run_model.specs.Views.{Next, is_start, view_of}
+use Rattle.run_model.specs.Views.{Next, is_start, moment_of, view_of}
 use Rattle.run_model.proofs.Matched.{none_matched}
 use Rattle.run_model.proofs.Origins.{AllBelow, AllBelow-more}
 use Rattle.run_model.proofs.Views.{option_cases, test_cases}
@@ -77,7 +77,7 @@ event_picked next n before event matched all step ordered =
     let call : Call = event.call in
     let reply : Reply = event.reply in
     let P : Pick = pick_by before call reply event.mate in
-    let F : Option Halt → Type 0 = λ o. IsAllowedBy o (IsStuck next n before) n before event.rank own call reply in
+    let F : Option Halt → Type 0 = λ o. IsAllowedBy o (IsStuck next n before) (moment_of n before event.rank own) call reply in
     let G : Option Halt → Type 0 = λ o. IsPickedEvent n before event (pick_unless o P) in
     elim (option_cases (due n before event.rank own call)) [
       | inl some ↦

@@ -8,7 +8,7 @@ use Rattle.mpi_call.specs.declared.call.Tag.{Tag}
 use Rattle.mpi_call.specs.declared.reply.Reply.{Reply}
 use Rattle.mpi_call.specs.Acceptance.{accepts}
 use Rattle.run_model.specs.declared.event.Event.{Event}
-use Rattle.run_model.specs.Allowed.{IsPeeked, has_open}
+use Rattle.run_model.specs.Allowed.{IsPeeked, has_open, probe_of}
 use Rattle.run_model.specs.Choice.{choice}
 use Rattle.run_model.specs.Chosen.{peeked_at, peeked_in}
 use Rattle.run_model.specs.Pairs.{name_at, named, pairs_of, partner_of}
@@ -26,7 +26,7 @@ pub record IsFoundAt (before : List Event) (me : ℕ) (call : Call) (sender : �
   pub is_choice : choice before me (call_from sender call) ≡ Some at
   pub reply_is : reply ≡ peeked_at before (name_at before at)
 
-pub peeked_choice : (before : List Event) (me comm : ℕ) (source : Source) (tag : Tag) (wait : Bool) (reply : Reply) (p : IsPeeked before me comm source tag reply)
+pub peeked_choice : (before : List Event) (me comm : ℕ) (source : Source) (tag : Tag) (wait : Bool) (reply : Reply) (p : IsPeeked before (probe_of me comm source tag) reply)
     → (at : ℕ) × IsFoundAt before me (Peek comm source tag wait) p.send.0 reply at
 peeked_choice before me comm source tag wait reply p =
     let call : Call = Peek comm source tag wait in
@@ -58,7 +58,7 @@ peeked_choice before me comm source tag wait reply p =
 
 -- of a picked sender a probe finds the earliest message
 pub picked_found : (before : List Event) (me comm : ℕ) (source : Source) (tag : Tag) (wait : Bool) (sender at : ℕ)
-    → choice before me (call_from sender (Peek comm source tag wait)) ≡ Some at → IsPeeked before me comm source tag (peeked_at before (name_at before at))
+    → choice before me (call_from sender (Peek comm source tag wait)) ≡ Some at → IsPeeked before (probe_of me comm source tag) (peeked_at before (name_at before at))
 picked_found before me comm source tag wait sender at h =
     let call : Call = Peek comm source tag wait in
     let c = choice_some before me (call_from sender call) at h in

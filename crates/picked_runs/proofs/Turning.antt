@@ -8,7 +8,7 @@ use Rattle.run_model.specs.Chosen.{chosen_event, order_of}
 use Rattle.run_model.specs.Lists.{Along, IsPrefixOf, world}
 use Rattle.run_model.specs.MachineLaws.{has_stuck, is_stuck_reply}
 use Rattle.run_model.specs.Run.{IsEvent}
-use Rattle.run_model.specs.Serial.{Stage, appended, at_first, attempt, attempt_with, attempts, call_after, is_stuck, others_wait, rounds}
+use Rattle.run_model.specs.Serial.{Stage, with_chosen_event, first_stage, attempt, attempt_with, attempts, call_after, is_stuck, others_wait, rounds}
 use Rattle.run_model.specs.Views.{Next, view_of}
 use Rattle.run_model.proofs.ChosenLaws.{cannot_go}
 use Rattle.run_model.proofs.Prefixes.{prefix_append, prefix_refl, prefix_trans}
@@ -19,7 +19,7 @@ use Rattle.picked_runs.specs.declared.turn.Pick.TheVariants.{First, Sender, Inde
 use Rattle.picked_runs.specs.declared.turn.Turn.{Turn}
 use Rattle.picked_runs.specs.Picks.{has_pick, picked_event}
 use Rattle.picked_runs.specs.Picked.{ArePicked, later_picks, next_pick}
-use Rattle.picked_runs.specs.Turns.{IsTaken, answered, take_turn, take_turns, turn_with, turns_of}
+use Rattle.picked_runs.specs.Turns.{IsRunByTurns, answered, take_turn, take_turns, turn_with, turns_of}
 use Rattle.picked_runs.specs.Made.{picks_of}
 use Rattle.picked_runs.specs.PickLaws.{EveryRunIsRecorded, OtherPickIsTaken, PicksBeginRun, TurnsEnd, TurnsFixRun}
 use Rattle.picked_runs.proofs.Firsts.{first_event}
@@ -70,17 +70,17 @@ rounds_more next n (suc count) more stage =
     rw e (rounds_more next n count more (attempts next n stage (world n 0)))
 
 -- the run of turns stays as it is in further rounds
-settled : (next : Next) (n : ℕ) (turns : List Turn) (events : List Event) (s : IsTaken next n turns events) (more : ℕ)
-    → (rounds next n (s.count + more) (take_turns next n at_first turns)).events ≡ events
+settled : (next : Next) (n : ℕ) (turns : List Turn) (events : List Event) (s : IsRunByTurns next n turns events) (more : ℕ)
+    → (rounds next n (s.count + more) (take_turns next n first_stage turns)).events ≡ events
 settled next n turns events s more =
-    let last : Stage = rounds next n s.count (take_turns next n at_first turns) in
+    let last : Stage = rounds next n s.count (take_turns next n first_stage turns) in
     let none : (rank : ℕ) → rank < n → call_after next n last.events rank ≡ None =
     λ rank below. ap (λ l. call_after next n l rank) s.made ∙ s.ended rank below in
-    ap (λ (x : Stage). x.events) (rounds_more next n s.count more (take_turns next n at_first turns) ∙ idle_rounds next n more last none) ∙ s.made
+    ap (λ (x : Stage). x.events) (rounds_more next n s.count more (take_turns next n first_stage turns) ∙ idle_rounds next n more last none) ∙ s.made
 
 pub turns_fix_run : (next : Next) (n : ℕ) → TurnsFixRun next n
 turns_fix_run next n turns one other s t =
-    let first : Stage = take_turns next n at_first turns in
+    let first : Stage = take_turns next n first_stage turns in
     let flip : s.count + t.count ≡ t.count + s.count = omega arith in
     sym (settled next n turns one s t.count) ∙ (ap (λ c. (rounds next n c first).events) flip ∙ settled next n turns other t s.count)
 
@@ -96,7 +96,7 @@ turned : (next : Next) (n : ℕ) (stage : Stage) (rank : ℕ) (call : Call) (pic
 turned next n stage rank call First offered goes =
     let left : List ℕ = filter (λ other. not (other == rank)) stage.waiting in
     let after : Event → Stage = λ e. record { events = stage.events ++ e ∷ []; waiting = left } in
-    let went : attempt_with next n stage rank (Some call) ≡ appended n stage rank call = rw goes in
+    let went : attempt_with next n stage rank (Some call) ≡ with_chosen_event n stage rank call = rw goes in
     went ∙ ap after (sym (first_event n stage.events rank call))
 turned next n stage rank call (Sender sender) offered goes = rw offered
 turned next n stage rank call (Index index) offered goes = rw offered
@@ -128,7 +128,7 @@ follow next n before (event ∷ run) picks waiting events picked free =
 
 pub picks_begin_run : (next : Next) (n : ℕ) → PicksBeginRun next n
 picks_begin_run next n picks run events picked free s =
-    let first : Stage = take_turns next n at_first (turns_of (order_of run) picks) in
+    let first : Stage = take_turns next n first_stage (turns_of (order_of run) picks) in
     let same : first.events ≡ run = follow next n [] run picks [] picked.run.along picked.along free in
     let longer = rounds_grow next n s.count first in
     (longer.0, ap (λ l. l ++ longer.0) (sym same) ∙ (longer.1 ∙ s.made))
@@ -156,10 +156,10 @@ pub other_pick_is_taken : (next : Next) (n : ℕ) → OtherPickIsTaken next n
 other_pick_is_taken next n picks run events rank sender call picked free asked offered s =
     let turns : List Turn = turns_of (order_of run) picks in
     let other : Turn = record { rank = rank; pick = Sender sender } in
-    let first : Stage = take_turns next n at_first turns in
+    let first : Stage = take_turns next n first_stage turns in
     let same : first.events ≡ run = follow next n [] run picks [] picked.run.along picked.along free in
-    let last : Stage = take_turns next n at_first (turns ++ other ∷ []) in
+    let last : Stage = take_turns next n first_stage (turns ++ other ∷ []) in
     let made : last.events ≡ run ++ picked_event n run rank call (Sender sender) ∷ [] =
-    ap (λ (x : Stage). x.events) (turns_append next n at_first turns (other ∷ [])) ∙ picked_turn next n first run rank sender call same asked offered in
+    ap (λ (x : Stage). x.events) (turns_append next n first_stage turns (other ∷ [])) ∙ picked_turn next n first run rank sender call same asked offered in
     let longer = rounds_grow next n s.count last in
     (longer.0, ap (λ l. l ++ longer.0) (sym made) ∙ (longer.1 ∙ s.made))

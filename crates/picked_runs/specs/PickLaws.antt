@@ -17,7 +17,7 @@ use Rattle.picked_runs.specs.declared.turn.Pick.TheVariants.{First, Sender}
 use Rattle.picked_runs.specs.declared.turn.Turn.{Turn}
 use Rattle.picked_runs.specs.Picks.{has_pick, picked_event}
 use Rattle.picked_runs.specs.Picked.{IsPicked, picks_and}
-use Rattle.picked_runs.specs.Turns.{IsTaken, IsTurnOf, turns_of}
+use Rattle.picked_runs.specs.Turns.{IsRunByTurns, IsTurnOf, turns_of}
 use Rattle.picked_runs.specs.Made.{picks_of}
 use Rattle.picked_runs.specs.Numbering.{AreNumberedInOrder}
 
@@ -32,25 +32,25 @@ PicksFixRun next n =
 
 -- turns make one run
 abbrev pub TurnsFixRun : Next → ℕ → Type 0
-TurnsFixRun next n = (turns : List Turn) (one other : List Event) → IsTaken next n turns one → IsTaken next n turns other → one ≡ other
+TurnsFixRun next n = (turns : List Turn) (one other : List Event) → IsRunByTurns next n turns one → IsRunByTurns next n turns other → one ≡ other
 
 -- in it each rank has ended
 abbrev pub TurnsEnd : Next → ℕ → Type 0
 TurnsEnd next n =
-    (turns : List Turn) (events : List Event) → IsTaken next n turns events → IsRun next n events
+    (turns : List Turn) (events : List Event) → IsRunByTurns next n turns events → IsRun next n events
     → (rank : ℕ) → rank < n → list_any ends (view_of events rank) ≡ true
 
 -- a run that picks make, without a Stuck reply, begins the run of its order and picks as turns
 abbrev pub PicksBeginRun : Next → ℕ → Type 0
 PicksBeginRun next n =
     (picks : List Pick) (run events : List Event) → IsPicked next n picks run → has_stuck run ≡ false
-    → IsTaken next n (turns_of (order_of run) picks) events → IsPrefixOf run events
+    → IsRunByTurns next n (turns_of (order_of run) picks) events → IsPrefixOf run events
 
 -- so every run that the matching rules allow, without a Stuck reply, is recorded by some turns: those of its order and of what it picked
 abbrev pub EveryRunIsRecorded : Next → ℕ → Type 0
 EveryRunIsRecorded next n =
     (run events : List Event) → IsRun next n run → AreNumberedInOrder n run → has_stuck run ≡ false
-    → IsTaken next n (turns_of (order_of run) (picks_of n run)) events → IsPrefixOf run events
+    → IsRunByTurns next n (turns_of (order_of run) (picks_of n run)) events → IsPrefixOf run events
 
 -- with one more event, which picks this: its pick stands behind the others, and where it picks nothing it need not
 pub record AreMorePicked (next : Next) (n : ℕ) (picks : List Pick) (before : List Event) (pick : Pick) (event : Event) : Type 0 where
@@ -91,5 +91,5 @@ abbrev pub OtherPickIsTaken : Next → ℕ → Type 0
 OtherPickIsTaken next n =
     (picks : List Pick) (run events : List Event) (rank sender : ℕ) (call : Call) → IsPicked next n picks run → has_stuck run ≡ false
     → call_after next n run rank ≡ Some call → has_pick n run rank call (Sender sender) ≡ true
-    → IsTaken next n (turns_of (order_of run) picks ++ (record { rank = rank; pick = Sender sender }) ∷ []) events
+    → IsRunByTurns next n (turns_of (order_of run) picks ++ (record { rank = rank; pick = Sender sender }) ∷ []) events
     → IsPrefixOf (run ++ picked_event n run rank call (Sender sender) ∷ []) events

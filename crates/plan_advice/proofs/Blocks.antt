@@ -6,7 +6,7 @@ use Rattle.mpi_call.specs.Members.{is_member}
 use Rattle.run_model.specs.Lists.{world}
 use Rattle.run_model.proofs.Views.{test_cases}
 use Rattle.srr_entry.specs.Entries.{all_within}
-use Rattle.plan_advice.specs.Pieces.{HasRank, block_ranks, is_within}
+use Rattle.plan_advice.specs.inside.Pieces.{HasRank, block_ranks, is_within}
 
 pub bool_same : (a b : Bool) → (a ≡ true → b ≡ true) → (b ≡ true → a ≡ true) → a ≡ b
 bool_same true b there back = sym (there refl)

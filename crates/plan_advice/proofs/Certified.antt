@@ -4,7 +4,7 @@ use Rattle.std.specs.Prelude.{MatchBool, slice_index}
 use Rattle.std.proofs.lemmas.Bool.{cases_lt, eqb-true, eqb-false, or_cases, or_parts}
 use Rattle.run_model.proofs.Views.{test_cases}
 use Rattle.plan_advice.specs.Cuttings.{AreEnds, IsBlock, IsCertificate, IsReached, cost_from}
-use Rattle.plan_advice.specs.Ways.{IsBound, cost_by}
+use Rattle.plan_advice.specs.inside.Ways.{IsBound, cost_by}
 use Rattle.plan_advice.proofs.Least.{ends_within}
 
 pub last_or : (k count : ℕ) → k < count + 1 → (k < count) ⊎ (k ≡ count)

@@ -23,7 +23,7 @@ use Rattle.log_bounds.proofs.Sent.{contents_sent}
 use Rattle.log_bounds.proofs.Sizes.{all_ints, content_in, content_of, ints_seen}
 use Rattle.log_bounds.proofs.Weights.{weigh_push}
 use Rattle.plan_advice.specs.Costs.{IsRunOfAProgram}
-use Rattle.plan_advice.specs.Pieces.{ints_given, ints_of_got, ints_of_items, ints_of_reply}
+use Rattle.plan_advice.specs.inside.Pieces.{ints_given, ints_of_got, ints_of_items, ints_of_reply}
 
 got_small : (got : Got) → ints_of_got got ≤ size_of_got got
 got_small Sent = omega arith

@@ -6,7 +6,7 @@ use Rattle.mpi_call.specs.declared.call.Call.{Call}
 use Rattle.mpi_call.specs.declared.call.Call.TheVariants.{End}
 use Rattle.mpi_call.specs.declared.reply.Reply.{Reply}
 use Rattle.mpi_call.specs.declared.reply.Reply.TheVariants.{Done, NotYet, Peeked, Stopped, Took}
-use Rattle.run_model.specs.Program.{AsksInBounds, EndsExactly, EntersInForm, IsInBounds, IsInForm, IsViewOf, ends}
+use Rattle.run_model.specs.Program.{AsksInBounds, EndsExactly, EntersInForm, IsCallInBounds, IsInForm, IsViewOf, ends}
 use Rattle.run_model.specs.Shape.{has_shape}
 use Rattle.run_model.specs.Views.{Next, View, replies_in}
 use Rattle.plan_advice.specs.Costs.{IsRunOfAProgram}
@@ -39,7 +39,7 @@ idle_ends n rank ((call, reply) ∷ view) is came =
 idle_asks : AsksInBounds idle
 idle_asks n rank [] call is came asked =
     let same : End ≡ call = cc in
-    let P : Call → Type 0 = λ c. IsInBounds n 0 c in
+    let P : Call → Type 0 = λ c. IsCallInBounds n 0 c in
     subst P same tt
 idle_asks n rank (seen ∷ view) call is came asked = absurd (cc)
 

@@ -5,11 +5,11 @@ use Rattle.mpi_call.specs.declared.call.Call.TheVariants.{Enter}
 use Rattle.mpi_call.specs.declared.call.Kind.{Kind}
 use Rattle.mpi_call.specs.declared.call.Op.{Op}
 use Rattle.mpi_call.specs.Needs.{needs}
-use Rattle.run_model.specs.Communicators.{known_in, members_in, or_none}
+use Rattle.run_model.specs.Communicators.{known_in, members_for_rank, or_none}
 use Rattle.run_model.specs.Views.{View, start_at}
 use Rattle.srr_entry.specs.Entries.{all_within, is_inner}
 use Rattle.srr_entry.proofs.Making.{other_inner}
-use Rattle.plan_advice.specs.Pieces.{HasRank, block_ranks, is_within}
+use Rattle.plan_advice.specs.inside.Pieces.{HasRank, block_ranks, is_within}
 use Rattle.plan_advice.proofs.Blocks.{within_from}
 use Rattle.plan_advice.proofs.Keeping.{never_made}
 
@@ -22,7 +22,7 @@ enter_reaches n rank own k call comm kind root op count ints members begin end l
     let enter : Call = Enter comm kind root op count ints in
     let P : Call → Type 0 = λ c. all_within group (needs c members rank) members ≡ is_within begin end least greatest in
     let there : start_at own k ≡ Some (Enter comm kind root op count ints) = at ∙ ap (λ (c : Call). Some c) is in
-    let same : members_in n own comm ≡ members = ap (λ o. or_none o) known in
+    let same : members_for_rank n own comm ≡ members = ap (λ o. or_none o) known in
     ap (λ o. is_inner n group rank own o) there
     ∙ (ap (λ l. all_within group (needs (Enter comm kind root op count ints) l rank) l) same ∙ subst P is within)
 
@@ -32,7 +32,7 @@ pub unknown_reaches : (n rank : ℕ) (own : View) (k : ℕ) (call : Call) (comm 
 unknown_reaches n rank own k call comm kind root op count ints begin end at is known has =
     let group : List ℕ = block_ranks begin end in
     let there : start_at own k ≡ Some (Enter comm kind root op count ints) = at ∙ ap (λ (c : Call). Some c) is in
-    let same : members_in n own comm ≡ [] = ap (λ o. or_none o) known in
+    let same : members_for_rank n own comm ≡ [] = ap (λ o. or_none o) known in
     ap (λ o. is_inner n group rank own o) there
     ∙ (ap (λ l. all_within group (needs (Enter comm kind root op count ints) l rank) l) same ∙ sym (within_from begin end rank rank has.from has.to))
 

@@ -16,18 +16,19 @@ use Rattle.run_model.specs.Views.{View, start_at, view_of}
 use Rattle.run_model.proofs.Views.{test_cases}
 use Rattle.srr_entry.specs.declared.entry.Entry.{Entry}
 use Rattle.srr_entry.specs.declared.entry.Marked.{Marked}
-use Rattle.srr_entry.specs.Entries.{entries_from, entry_of, is_inner, mark_of, marks_of}
+use Rattle.srr_entry.specs.Entries.{entries_from, entry_of, is_inner, mark_of_got, marks_of_items}
 use Rattle.srr_entry.proofs.Making.{entries_from-snoc, view_of-front, view_of-past}
 use Rattle.plan_advice.specs.declared.pieces.Piece.{Piece}
-use Rattle.plan_advice.specs.Costs.{ints_in, ints_in_mark}
-use Rattle.plan_advice.specs.Pieces.{AreGrown, ArePieces, HasRank, IsGrown, IsPiece, block_ranks, ints_given, ints_in_pieces, ints_of_got, ints_of_items, ints_of_reply, is_within, kept_in, kept_of, view_cost}
+use Rattle.plan_advice.specs.declared.span.RunRank.{RunRank}
+use Rattle.plan_advice.specs.Costs.{ints_of_entry, ints_in_mark}
+use Rattle.plan_advice.specs.inside.Pieces.{AreGrown, ArePieces, HasRank, IsGrown, IsPiece, block_ranks, ints_given, ints_in_pieces, ints_of_got, ints_of_items, ints_of_reply, is_within, kept_in, kept_ints, view_cost}
 use Rattle.plan_advice.proofs.Blocks.{in_block}
 
 -- 1. pieces of what starts give
 
 pub message_piece : (n rank : ℕ) (own : View) (k source start tag : ℕ) (ints : List ℤ) (begin end : ℕ) (piece : Piece)
     → piece.least ≡ source → piece.greatest ≡ source → piece.ints ≡ length ints
-    → kept_of begin end piece ≡ ints_in_mark (mark_of n (block_ranks begin end) rank own k (Message source start tag ints))
+    → kept_ints begin end piece ≡ ints_in_mark (mark_of_got n (block_ranks begin end) rank own k (Message source start tag ints))
 message_piece n rank own k source start tag ints begin end piece low high long =
     let both : is_within begin end piece.least piece.greatest ≡ is_within begin end source source = rw (low, high) refl in
     elim (test_cases (is_within begin end source source)) [
@@ -38,7 +39,7 @@ message_piece n rank own k source start tag ints begin end piece low high long =
 pub joined_piece : (n rank : ℕ) (own : View) (k : ℕ) (ints : List ℤ) (begin end least greatest : ℕ) (piece : Piece)
     → piece.least ≡ least → piece.greatest ≡ greatest → piece.ints ≡ length ints
     → is_inner n (block_ranks begin end) rank own (start_at own k) ≡ is_within begin end least greatest
-    → kept_of begin end piece ≡ ints_in_mark (mark_of n (block_ranks begin end) rank own k (Joined ints))
+    → kept_ints begin end piece ≡ ints_in_mark (mark_of_got n (block_ranks begin end) rank own k (Joined ints))
 joined_piece n rank own k ints begin end least greatest piece low high long inner =
     let both : is_within begin end piece.least piece.greatest ≡ is_within begin end least greatest = rw (low, high) refl in
     elim (test_cases (is_within begin end least greatest)) [
@@ -46,17 +47,17 @@ joined_piece n rank own k ints begin end least greatest piece low high long inne
       | inr t ↦ rw (both, inner, t) long
     ]
 
-no_ints : (begin end : ℕ) (piece : Piece) → piece.ints ≡ 0 → kept_of begin end piece ≡ 0
+no_ints : (begin end : ℕ) (piece : Piece) → piece.ints ≡ 0 → kept_ints begin end piece ≡ 0
 no_ints begin end piece none =
     elim (test_cases (is_within begin end piece.least piece.greatest)) [ inl t ↦ rw t refl | inr t ↦ rw t none ]
 
 pub made_piece : (n rank : ℕ) (own : View) (k comm : ℕ) (members : List ℕ) (begin end : ℕ) (piece : Piece) → piece.ints ≡ 0
-    → kept_of begin end piece ≡ ints_in_mark (mark_of n (block_ranks begin end) rank own k (Made comm members))
+    → kept_ints begin end piece ≡ ints_in_mark (mark_of_got n (block_ranks begin end) rank own k (Made comm members))
 made_piece n rank own k comm members begin end piece none =
     no_ints begin end piece none
     ∙ elim (test_cases (is_inner n (block_ranks begin end) rank own (start_at own k))) [ inl t ↦ rw t refl | inr t ↦ rw t refl ]
 
-pub empty_piece : (begin end : ℕ) (piece : Piece) → piece.ints ≡ 0 → kept_of begin end piece ≡ 0
+pub empty_piece : (begin end : ℕ) (piece : Piece) → piece.ints ≡ 0 → kept_ints begin end piece ≡ 0
 empty_piece = no_ints
 
 -- a start that was never made is in no block
@@ -71,18 +72,18 @@ never_made begin end few = rw (le-ltb 255 end few) (and_false _)
 
 pub items_more : (n rank : ℕ) (own : View) (starts : List ℕ) (item : Item) (list rest : List Item) (start : ℕ) (first before after : List Piece) (piece : Piece) (all : List Item)
     → list ≡ item ∷ rest → start ≡ slice_index starts item.index → IsPiece n rank own start item.got piece → after ≡ before ++ piece ∷ []
-    → ((begin end : ℕ) → HasRank rank begin end → kept_in begin end before + sum_by (λ (item : Marked). ints_in_mark item.mark) (marks_of n (block_ranks begin end) rank own starts list)
-    ≡ kept_in begin end first + sum_by (λ (item : Marked). ints_in_mark item.mark) (marks_of n (block_ranks begin end) rank own starts all))
-    → (begin end : ℕ) → HasRank rank begin end → kept_in begin end after + sum_by (λ (item : Marked). ints_in_mark item.mark) (marks_of n (block_ranks begin end) rank own starts rest)
-    ≡ kept_in begin end first + sum_by (λ (item : Marked). ints_in_mark item.mark) (marks_of n (block_ranks begin end) rank own starts all)
+    → ((begin end : ℕ) → HasRank rank begin end → kept_in begin end before + sum_by (λ (item : Marked). ints_in_mark item.mark) (marks_of_items n (block_ranks begin end) rank own starts list)
+    ≡ kept_in begin end first + sum_by (λ (item : Marked). ints_in_mark item.mark) (marks_of_items n (block_ranks begin end) rank own starts all))
+    → (begin end : ℕ) → HasRank rank begin end → kept_in begin end after + sum_by (λ (item : Marked). ints_in_mark item.mark) (marks_of_items n (block_ranks begin end) rank own starts rest)
+    ≡ kept_in begin end first + sum_by (λ (item : Marked). ints_in_mark item.mark) (marks_of_items n (block_ranks begin end) rank own starts all)
 items_more n rank own starts item list rest start first before after piece all split at is grown so_far begin end has =
     let group : List ℕ = block_ranks begin end in
-    let marked : Marked = record { index = item.index; mark = mark_of n group rank own (slice_index starts item.index) item.got } in
-    let cons = sum_by-cons (λ (item : Marked). ints_in_mark item.mark) marked (marks_of n group rank own starts rest) in
-    let push : kept_in begin end after ≡ kept_in begin end before + kept_of begin end piece = rw grown (sum_by_push (λ (piece : Piece). kept_of begin end piece) before piece) in
-    let F : ℕ → Type 0 = λ k. kept_of begin end piece ≡ ints_in_mark (mark_of n group rank own k item.got) in
+    let marked : Marked = record { index = item.index; mark = mark_of_got n group rank own (slice_index starts item.index) item.got } in
+    let cons = sum_by-cons (λ (item : Marked). ints_in_mark item.mark) marked (marks_of_items n group rank own starts rest) in
+    let push : kept_in begin end after ≡ kept_in begin end before + kept_ints begin end piece = rw grown (sum_by_push (λ (piece : Piece). kept_ints begin end piece) before piece) in
+    let F : ℕ → Type 0 = λ k. kept_ints begin end piece ≡ ints_in_mark (mark_of_got n group rank own k item.got) in
     let one = subst F at (is begin end has) in
-    let front = ap (λ l. sum_by (λ (item : Marked). ints_in_mark item.mark) (marks_of n group rank own starts l)) split in
+    let front = ap (λ l. sum_by (λ (item : Marked). ints_in_mark item.mark) (marks_of_items n group rank own starts l)) split in
     let was = so_far begin end has in
     omega (arith, cons, push, one, was, front)
 
@@ -95,7 +96,7 @@ ints_more first before after piece item list rest all split grown long was =
     omega (arith, push, long, was, front)
 
 -- other replies keep no ints
-pub done_costs : (call : Call) (n rank : ℕ) (group : List ℕ) (own : View) → ints_in (entry_of n group rank own call Done) ≡ 0
+pub done_costs : (call : Call) (n rank : ℕ) (group : List ℕ) (own : View) → ints_of_entry (entry_of n group rank own call Done) ≡ 0
 done_costs (Send comm dest tag ints sync) n rank group own = refl
 done_costs (Post comm source tag room) n rank group own = refl
 done_costs (Enter comm kind root op count ints) n rank group own = refl
@@ -106,7 +107,7 @@ done_costs (Trap fault) n rank group own = refl
 done_costs End n rank group own = refl
 
 pub other_costs : (reply : Reply) (call : Call) (n rank : ℕ) (group : List ℕ) (own : View) → ((items : List Item) → reply ≡ Took items → ⊥)
-    → (ints_in (entry_of n group rank own call reply) ≡ 0) × (ints_of_reply reply ≡ 0)
+    → (ints_of_entry (entry_of n group rank own call reply) ≡ 0) × (ints_of_reply reply ≡ 0)
 other_costs Done call n rank group own not = (done_costs call n rank group own, refl)
 other_costs (Took items) call n rank group own not = absurd (not items refl)
 other_costs NotYet call n rank group own not = (refl, refl)
@@ -114,20 +115,22 @@ other_costs (Peeked source start tag count) call n rank group own not =
     (elim (test_cases (is_member group source)) [ inl t ↦ rw t refl | inr t ↦ rw t refl ], refl)
 other_costs (Stopped halt) call n rank group own not = (refl, refl)
 
-pub other_grown : (reply : Reply) (call : Call) (n rank : ℕ) (own : View) (pieces : List Piece) → ((items : List Item) → reply ≡ Took items → ⊥)
-    → IsGrown n rank own call reply pieces pieces
-other_grown reply call n rank own pieces not begin end has =
-    let none = (other_costs reply call n rank (block_ranks begin end) own not).0 in
+pub other_grown : (reply : Reply) (call : Call) (owner : RunRank) (own : View) (pieces : List Piece) → ((items : List Item) → reply ≡ Took items → ⊥)
+    → IsGrown owner own call reply pieces pieces
+other_grown reply call owner own pieces not begin end has =
+    let none = (other_costs reply call owner.ranks owner.rank (block_ranks begin end) own not).0 in
     omega (arith, none)
 
 -- one more reply of the rank
-pub pieces_more : (n rank : ℕ) (own own' : View) (call : Call) (reply : Reply) (before after : List Piece) → own' ≡ own ++ (call, reply) ∷ []
-    → ArePieces n rank own before → IsGrown n rank own call reply before after → ArePieces n rank own' after
-pieces_more n rank own own' call reply before after is are grown begin end has =
+pub pieces_more : (owner : RunRank) (own own' : View) (call : Call) (reply : Reply) (before after : List Piece) → own' ≡ own ++ (call, reply) ∷ []
+    → ArePieces owner.ranks owner.rank own before → IsGrown owner own call reply before after → ArePieces owner.ranks owner.rank own' after
+pieces_more owner own own' call reply before after is are grown begin end has =
+    let n : ℕ = owner.ranks in
+    let rank : ℕ = owner.rank in
     let group : List ℕ = block_ranks begin end in
     let snoc : entries_from n group rank [] own' ≡ entries_from n group rank [] own ++ entry_of n group rank own call reply ∷ [] = rw is (entries_from-snoc n group rank [] own call reply) in
-    let push = sum_by_push ints_in (entries_from n group rank [] own) (entry_of n group rank own call reply) in
-    let whole : view_cost n begin end rank own' ≡ view_cost n begin end rank own + ints_in (entry_of n group rank own call reply) = rw snoc push in
+    let push = sum_by_push ints_of_entry (entries_from n group rank [] own) (entry_of n group rank own call reply) in
+    let whole : view_cost n begin end rank own' ≡ view_cost n begin end rank own + ints_of_entry (entry_of n group rank own call reply) = rw snoc push in
     let more = grown begin end has in
     let was = are begin end has in
     omega (arith, whole, more, was)

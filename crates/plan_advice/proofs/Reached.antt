@@ -6,7 +6,7 @@ use Rattle.plan_advice.specs.declared.advice.Advice.{Advice}
 use Rattle.plan_advice.specs.declared.ways.Ways.{Ways}
 use Rattle.plan_advice.specs.Advices.{IsAdvice}
 use Rattle.plan_advice.specs.Costs.{block_cost}
-use Rattle.plan_advice.specs.Ways.{AreFalling, AreLed, AreWays}
+use Rattle.plan_advice.specs.inside.Ways.{AreFalling, AreLed, AreWays}
 
 pub falling_less : (begins : List ℕ) (begin end : ℕ) → AreFalling begins end → 0 < end → begin ≡ slice_index begins end → AreFalling begins begin
 falling_less begins begin end is some at =

@@ -4,14 +4,14 @@ use Rattle.std.specs.Prelude.{slice_index}
 use Rattle.std.proofs.lemmas.Bool.{cases_lt, ltb-false, ltb-true}
 use Rattle.std.proofs.lemmas.List.{get_or_append_left, get_or_push}
 use Rattle.run_model.proofs.Views.{test_cases}
-use Rattle.plan_advice.specs.declared.ways.Way.{Way}
+use Rattle.plan_advice.specs.declared.ways.LastBlock.{LastBlock}
 use Rattle.plan_advice.specs.declared.ways.Ways.{Ways}
 use Rattle.plan_advice.specs.Cuttings.{AreEnds, AreLeast, IsBlock, IsCertificate, IsLeastReached, IsReached, cost_from}
-use Rattle.plan_advice.specs.Ways.{AreBegins, AreFalling, AreLed, AreSmall, AreWays, IsCheapest, LeadTo, cost_by}
+use Rattle.plan_advice.specs.inside.Ways.{AreBegins, AreFalling, AreLed, AreSmallCosts, AreWays, IsCheapest, LeadTo, cost_by}
 
 -- 1. ways to one end
 
-pub first_way : (block : ℕ → ℕ → ℕ) (most : ℕ) (bounds : List ℕ) (first end : ℕ) (way : Way) → 0 < most → 0 < end → first ≡ end - most
+pub first_way : (block : ℕ → ℕ → ℕ) (most : ℕ) (bounds : List ℕ) (first end : ℕ) (way : LastBlock) → 0 < most → 0 < end → first ≡ end - most
     → way.begin ≡ first → way.cost ≡ cost_by block bounds first end → IsCheapest block most bounds (first + 1) end way
 first_way block most bounds first end way some at is begins costs =
     let is_block : IsBlock most first end = record { some = omega (arith, some, at, is); few = omega (arith, is) } in
@@ -29,10 +29,10 @@ first_way block most bounds first end way some at is begins costs =
       first = λ other below one. (let few = one.few in absurd (omega (arith, below, few, is, begins)));
     }
 
-abbrev pub cheaper_of : Way → Way → Way
+abbrev pub cheaper_of : LastBlock → LastBlock → LastBlock
 cheaper_of one other = if nat_lt other.cost one.cost then other else one
 
-pub way_more : (block : ℕ → ℕ → ℕ) (most : ℕ) (bounds : List ℕ) (next end : ℕ) (best way best' : Way) → next < end → IsCheapest block most bounds next end best
+pub way_more : (block : ℕ → ℕ → ℕ) (most : ℕ) (bounds : List ℕ) (next end : ℕ) (best way best' : LastBlock) → next < end → IsCheapest block most bounds next end best
     → way.begin ≡ next → way.cost ≡ cost_by block bounds next end → best' ≡ cheaper_of best way → IsCheapest block most bounds (next + 1) end best'
 way_more block most bounds next end best way best' below is begins costs chosen =
     let few = is.is_block.few in
@@ -44,7 +44,7 @@ way_more block most bounds next end best way best' below is begins costs chosen 
       | inl t ↦ (
           let same : best' ≡ way = rw t at chosen in
           let less : way.cost < best.cost = ltb-true way.cost best.cost t in
-          let P : Way → Type 0 = λ w. IsCheapest block most bounds (next + 1) end w in
+          let P : LastBlock → Type 0 = λ w. IsCheapest block most bounds (next + 1) end w in
           subst P (sym same) (record {
             is_block = subst B (sym begins) is_block;
             cost = subst C (sym begins) costs;
@@ -58,7 +58,7 @@ way_more block most bounds next end best way best' below is begins costs chosen 
       | inr f ↦ (
           let same : best' ≡ best = rw f at chosen in
           let more : best.cost ≤ way.cost = ltb-false way.cost best.cost f in
-          let P : Way → Type 0 = λ w. IsCheapest block most bounds (next + 1) end w in
+          let P : LastBlock → Type 0 = λ w. IsCheapest block most bounds (next + 1) end w in
           subst P (sym same) (record {
             is_block = is.is_block;
             cost = is.cost;
@@ -106,7 +106,7 @@ was block most bounds bounds' x begin end grown below is =
     record { is_block = is.is_block; same = omega (arith, one, two, same) }
 
 -- the new bound is reached by the way
-new_reached : (block : ℕ → ℕ → ℕ) (most n : ℕ) (bounds bounds' : List ℕ) (way : Way) → length bounds ≡ n + 1 → bounds' ≡ bounds ++ way.cost ∷ []
+new_reached : (block : ℕ → ℕ → ℕ) (most n : ℕ) (bounds bounds' : List ℕ) (way : LastBlock) → length bounds ≡ n + 1 → bounds' ≡ bounds ++ way.cost ∷ []
     → IsCheapest block most bounds (n + 1) (n + 1) way → IsLeastReached block most bounds' way.begin (n + 1)
 new_reached block most n bounds bounds' way many grown is =
     let top : slice_index bounds' (n + 1) ≡ way.cost = new_at bounds bounds' way.cost (n + 1) grown many in
@@ -122,7 +122,7 @@ new_reached block most n bounds bounds' way many grown is =
           omega (arith, there, same, more, top);
     }
 
-pub ways_more : (block : ℕ → ℕ → ℕ) (most n : ℕ) (begins begins' bounds bounds' : List ℕ) (way : Way)
+pub ways_more : (block : ℕ → ℕ → ℕ) (most n : ℕ) (begins begins' bounds bounds' : List ℕ) (way : LastBlock)
     → AreWays block most n (record { begins = begins; bounds = bounds }) → IsCheapest block most bounds (n + 1) (n + 1) way → way.cost ≤ (n + 1) * 2 ^ 32
     → begins' ≡ begins ++ way.begin ∷ [] → bounds' ≡ bounds ++ way.cost ∷ []
     → AreWays block most (n + 1) (record { begins = begins'; bounds = bounds' })

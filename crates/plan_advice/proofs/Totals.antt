@@ -11,8 +11,8 @@ use Rattle.run_model.specs.Views.{view_of}
 use Rattle.srr_entry.specs.declared.entry.Entry.{Entry}
 use Rattle.srr_entry.specs.Entries.{entries_from, log_of}
 use Rattle.plan_advice.specs.declared.pieces.Piece.{Piece}
-use Rattle.plan_advice.specs.Costs.{block_cost, group_cost, ints_in, ints_in_log}
-use Rattle.plan_advice.specs.Pieces.{AreCosts, AreFew, ArePieces, HasRank, block_ranks, ints_in_pieces, kept_by, kept_in, view_cost}
+use Rattle.plan_advice.specs.Costs.{block_cost, group_cost, ints_of_entry, ints_in_log}
+use Rattle.plan_advice.specs.inside.Pieces.{AreCosts, AreFew, ArePieces, HasRank, block_ranks, ints_in_pieces, kept_by, kept_in, view_cost}
 
 -- an element does not rest on the default
 pub same_at : {X : Type 0} (xs : List X) (i : ℕ) (d e : X) → i < length xs → get_or xs i d ≡ get_or xs i e
@@ -31,8 +31,8 @@ sum_map f g (rank ∷ ranks) =
 
 -- what a group costs, rank by rank
 pub group_is : (n : ℕ) (events : List Event) (group : List ℕ)
-    → group_cost n events group ≡ sum_by (λ rank. sum_by ints_in (entries_from n group rank [] (view_of events rank))) group
-group_is n events group = sum_map (λ entries. sum_by ints_in entries) (λ rank. entries_from n group rank [] (view_of events rank)) group
+    → group_cost n events group ≡ sum_by (λ rank. sum_by ints_of_entry (entries_from n group rank [] (view_of events rank))) group
+group_is n events group = sum_map (λ entries. sum_by ints_of_entry entries) (λ rank. entries_from n group rank [] (view_of events rank)) group
 
 -- two functions that are the same from a rank on
 pub sum_same : (f g : ℕ → ℕ) (count from : ℕ) → ((rank : ℕ) → from ≤ rank → rank < from + count → f rank ≡ g rank) → sum_by f (world count from) ≡ sum_by g (world count from)

@@ -20,13 +20,13 @@ ints_in_mark (Outer ints) = length ints
 ints_in_mark mark = 0
 
 -- the same of an entry
-abbrev pub ints_in : Entry → ℕ
-ints_in (Took items) = sum_by (λ item. ints_in_mark item.mark) items
-ints_in entry = 0
+abbrev pub ints_of_entry : Entry → ℕ
+ints_of_entry (Took items) = sum_by (λ item. ints_in_mark item.mark) items
+ints_of_entry entry = 0
 
 -- the same of a log: of each rank's entries
 abbrev pub ints_in_log : Log → ℕ
-ints_in_log log = sum_by (λ entries. sum_by ints_in entries) log.lists
+ints_in_log log = sum_by (λ entries. sum_by ints_of_entry entries) log.lists
 
 -- what a group costs in a run on n ranks: the ints in its log. The program's text has no part in it
 abbrev pub group_cost : ℕ → List Event → List ℕ → ℕ

@@ -1,5 +1,4 @@
 pub mod Advices
 pub mod Costs
 pub mod Cuttings
-pub mod Pieces
-pub mod Ways
+pub mod inside

@@ -3,10 +3,10 @@ ghost use Rattle.std.specs.Prelude.{◌≡◌, ◌≤◌, ◌<◌, ◌*◌, ◌-
 ghost use Rattle.run_model.specs.Lists.{world};
 ghost use Rattle.srr_entry.specs.Seen.{AreRanksViews};
 ghost use Rattle.plan_advice.specs.Costs.{block_cost};
-ghost use Rattle.plan_advice.specs.Pieces.{AreCosts, AreFew, block_ranks, ints_given, ints_in_pieces, kept_by, kept_in, kept_of};
+ghost use Rattle.plan_advice.specs.inside.Pieces.{AreCosts, AreFew, block_ranks, ints_given, ints_in_pieces, kept_by, kept_in, kept_ints};
 
 use crate::pieces::{Piece, Pieces, pieces_of};
-use crate::span::Owner;
+use crate::span::RunRank;
 use run_model::history::History;
 use std::alloc::{AllocError, Global};
 use std::marker::Model;
@@ -20,7 +20,7 @@ pub struct Costs<'a> {
 }
 
 impl<'a> Model for Costs<'a> {
-    ghost use Rattle.plan_advice.specs.Pieces.{AreCosts, Costed};
+    ghost use Rattle.plan_advice.specs.inside.Pieces.{AreCosts, Costed};
 
     ghost Value = { Costed };
 
@@ -39,7 +39,7 @@ impl<'a> Costs<'a> {
     {
         let mut lists = Vec::new(alloc);
         for rank in 0..n {
-            let owner = Owner { ranks: n, rank };
+            let owner = RunRank { ranks: n, rank };
             let pieces = pieces_of(alloc, &owner, history.as_slice())?;
             lists.push(pieces)?;
         }
@@ -76,7 +76,7 @@ fn kept_in(pieces: &[Piece], begin: u8, end: u8) -> u64
 
 /// The ints that a block's log keeps of a piece.
 fn kept_of(piece: Piece, begin: u8, end: u8) -> u64
-    ensures kept { result ≡ kept_of begin end piece }
+    ensures kept { result ≡ kept_ints begin end piece }
     ensures few { result ≤ piece.ints }
 {
     if begin <= piece.least && piece.greatest < end {

@@ -3,7 +3,7 @@ ghost use Rattle.std.specs.Prelude.{◌≡◌, ◌≤◌, ◌<◌, ◌↔◌, If
 ghost use Rattle.plan_advice.specs.Advices.{IsCertified};
 ghost use Rattle.plan_advice.specs.Costs.{IsRunOfAProgram, block_cost};
 ghost use Rattle.plan_advice.specs.Cuttings.{IsBlock, IsCertificate, IsCutting, cutting_cost};
-ghost use Rattle.plan_advice.specs.Ways.{IsBound};
+ghost use Rattle.plan_advice.specs.inside.Ways.{IsBound};
 
 use crate::advice::Advice;
 use crate::costs::Costs;

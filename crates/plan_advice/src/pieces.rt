@@ -1,18 +1,18 @@
 //! What the completions of a rank gave it, as far as costs go.
-ghost use Rattle.std.specs.Prelude.{◌≡◌, ◌≤◌, ◌<◌, ◌+◌, ◌^◌, ◌++◌, ◌∷◌, [], IfOk, OnOk, OnErr, IfErr, slice_index};
+ghost use Rattle.std.specs.Prelude.{◌≡◌, ◌≤◌, ◌<◌, ◌+◌, IfOk, OnOk, slice_index};
 ghost use Rattle.run_model.specs.Forms.{IsInOrder};
 ghost use Rattle.run_model.specs.Views.{View, view_of};
 ghost use Rattle.srr_entry.specs.Known.{IsKnownOf};
 ghost use Rattle.srr_entry.specs.Seen.{IsRanksView};
-ghost use Rattle.plan_advice.specs.Pieces.{AreGrown, ArePieces, IsGrown, IsPiece, ints_given, ints_in_pieces, ints_of_got, ints_of_items, ints_of_reply};
+ghost use Rattle.plan_advice.specs.inside.Pieces.{AreGrown, ArePieces, IsGrown, IsPiece, ints_given, ints_in_pieces, ints_of_got, ints_of_items, ints_of_reply};
 
-use crate::span::{Owner, span_of};
+use crate::span::{RunRank, span_of};
+use listed::Listed;
 use mpi_call::call::Call;
 use mpi_call::reply::{Got, Item, Reply};
 use run_model::event::Event;
 use srr_entry::known::Known;
-use std::alloc::{AllocError, AllocFailed, Global};
-use std::marker::Model;
+use std::alloc::{AllocError, Global};
 use view_tables::start_table::listed_by;
 
 /// How many ints a completed start gave, and the least and the greatest rank of those that it came from: the sender of a message, the
@@ -25,49 +25,10 @@ pub struct Piece {
 }
 
 /// Pieces in order; contracts see a list.
-#[derive(Drop)]
-pub struct Pieces {
-    values: Vec<Piece>,
-}
-
-impl Model for Pieces {
-    ghost use Rattle.std.specs.Prelude.{List};
-    ghost use Rattle.plan_advice.specs.declared.pieces.Piece.{Piece};
-
-    ghost Value = { List Piece };
-
-    ghost view = { λ s. s.values.items };
-}
-
-impl Pieces {
-    /// The empty list.
-    pub fn new(alloc: Global) -> Self
-        ensures { result ≡ [] }
-    {
-        Pieces {
-            values: Vec::new(alloc),
-        }
-    }
-
-    /// Adds a piece at the end. Out of memory, it comes back and nothing has changed.
-    pub fn push(&mut self, value: Piece) -> Result<(), AllocFailed<Piece>>
-        ensures ok { OnOk result (self.new ≡ self.old ++ value ∷ []) }
-        ensures err { OnErr result (self.new ≡ self.old) }
-        ensures back { IfErr result (λ refused. refused.value ≡ value) }
-    {
-        self.values.push(value)
-    }
-
-    /// The pieces in order.
-    pub fn as_slice(&self) -> &[Piece]
-        ensures { result.now ≡ self.now }
-    {
-        &self.values
-    }
-}
+pub type Pieces = Listed<Piece>;
 
 /// The piece of what a start of the rank gave.
-fn piece_of(owner: &Owner, known: &Known<'_>, start: u32, got: &Got) -> Piece
+fn piece_of(owner: &RunRank, known: &Known<'_>, start: u32, got: &Got) -> Piece
     requires { (own : View) × IsKnownOf owner.now.ranks own known.now × IsInOrder owner.now.ranks owner.now.rank own }
     ensures piece { (own : View) → IsKnownOf owner.now.ranks own known.now → IsPiece owner.now.ranks owner.now.rank own start got.now result }
     ensures ints { result.ints ≡ ints_of_got got.now }
@@ -104,13 +65,13 @@ fn listed_start(starts: &[u32], index: u32) -> u32
 /// Adds the pieces of completed starts.
 fn add_items(
     pieces: &mut Pieces,
-    owner: &Owner,
+    owner: &RunRank,
     known: &Known<'_>,
     starts: &[u32],
     items: &[Item],
 ) -> Result<(), AllocError>
     requires { (own : View) × IsKnownOf owner.now.ranks own known.now × IsInOrder owner.now.ranks owner.now.rank own }
-    ensures grown { OnOk result ((own : View) → IsKnownOf owner.now.ranks own known.now → AreGrown owner.now.ranks owner.now.rank own starts.now items.now pieces.old pieces.new) }
+    ensures grown { OnOk result ((own : View) → IsKnownOf owner.now.ranks own known.now → AreGrown owner.now own starts.now items.now pieces.old pieces.new) }
     ensures ints { OnOk result (ints_in_pieces pieces.new ≡ ints_in_pieces pieces.old + ints_of_items items.now) }
 {
     let mut rest = items;
@@ -126,13 +87,13 @@ fn add_items(
 /// Adds the pieces of a reply to the rank's call, after what it has seen.
 fn add_reply(
     pieces: &mut Pieces,
-    owner: &Owner,
+    owner: &RunRank,
     known: &Known<'_>,
     call: &Call,
     reply: &Reply,
 ) -> Result<(), AllocError>
     requires { (own : View) × IsKnownOf owner.now.ranks own known.now × IsInOrder owner.now.ranks owner.now.rank own }
-    ensures grown { OnOk result ((own : View) → IsKnownOf owner.now.ranks own known.now → IsGrown owner.now.ranks owner.now.rank own call.now reply.now pieces.old pieces.new) }
+    ensures grown { OnOk result ((own : View) → IsKnownOf owner.now.ranks own known.now → IsGrown owner.now own call.now reply.now pieces.old pieces.new) }
     ensures ints { OnOk result (ints_in_pieces pieces.new ≡ ints_in_pieces pieces.old + ints_of_reply reply.now) }
 {
     match reply {
@@ -142,7 +103,7 @@ fn add_reply(
 }
 
 /// The pieces of all that a rank has seen.
-pub fn pieces_of(alloc: Global, owner: &Owner, events: &[Event]) -> Result<Pieces, AllocError>
+pub fn pieces_of(alloc: Global, owner: &RunRank, events: &[Event]) -> Result<Pieces, AllocError>
     requires { IsRanksView owner.now.ranks owner.now.rank (view_of events.now owner.now.rank) }
     ensures pieces { IfOk result (λ pieces. ArePieces owner.now.ranks owner.now.rank (view_of events.now owner.now.rank) pieces) }
     ensures few { IfOk result (λ pieces. ints_in_pieces pieces ≤ ints_given events.now) }

@@ -1,7 +1,7 @@
 //! What a plan costs.
 ghost use Rattle.std.specs.Prelude.{◌≡◌, ◌≤◌, ◌<◌, ◌^◌, All, IfOk, sum_by};
-ghost use Rattle.group_plan.specs.Plans.{IsGroup, number_of_ranks};
-ghost use Rattle.plan_advice.specs.Costs.{IsRunOfAProgram, group_cost, ints_in, ints_in_log, ints_in_mark, plan_cost};
+ghost use Rattle.group_plan.specs.Plans.{IsRisingGroup, number_of_ranks};
+ghost use Rattle.plan_advice.specs.Costs.{IsRunOfAProgram, group_cost, ints_of_entry, ints_in_log, ints_in_mark, plan_cost};
 
 use group_plan::Plan;
 use mpi_call::lists::Ranks;
@@ -30,7 +30,7 @@ pub fn plan_cost(alloc: Global, history: &History, plan: &Plan) -> Result<u64, A
 /// The ints that the log of a group keeps.
 fn group_cost(alloc: Global, n: u8, group: &Ranks, by_rank: &ByRank<'_>) -> Result<u64, AllocError>
     requires run { IsRunOfAProgram n by_rank.now }
-    requires group { IsGroup group.now }
+    requires group { IsRisingGroup group.now }
     requires below { All (λ rank. rank < n) group.now }
     ensures cost { IfOk result (λ cost. cost ≡ group_cost n by_rank.now group.now) }
     ensures few { IfOk result (λ cost. cost ≤ 2 ^ 38) }
@@ -51,8 +51,8 @@ fn ints_in_log(log: &Log) -> u64
 }
 
 fn ints_in_entries(entries: &[Entry]) -> u64
-    requires { sum_by ints_in entries.now < 2 ^ 64 }
-    ensures { result ≡ sum_by ints_in entries.now }
+    requires { sum_by ints_of_entry entries.now < 2 ^ 64 }
+    ensures { result ≡ sum_by ints_of_entry entries.now }
 {
     let mut total = 0;
     for entry in entries {
@@ -62,8 +62,8 @@ fn ints_in_entries(entries: &[Entry]) -> u64
 }
 
 fn ints_in(entry: &Entry) -> u64
-    requires { ints_in entry.now < 2 ^ 64 }
-    ensures { result ≡ ints_in entry.now }
+    requires { ints_of_entry entry.now < 2 ^ 64 }
+    ensures { result ≡ ints_of_entry entry.now }
 {
     match entry {
         Entry::Took(items) => ints_in_items(items.as_slice()),

@@ -6,7 +6,7 @@ ghost use Rattle.run_model.specs.Forms.{IsInOrder};
 ghost use Rattle.run_model.specs.Views.{View, start_at};
 ghost use Rattle.srr_entry.specs.Entries.{all_within, is_inner};
 ghost use Rattle.srr_entry.specs.Known.{IsKnownOf};
-ghost use Rattle.plan_advice.specs.Pieces.{HasRank, block_ranks, is_within};
+ghost use Rattle.plan_advice.specs.inside.Pieces.{HasRank, block_ranks, is_within};
 
 use mpi_call::call::Call;
 use mpi_call::lists::Ranks;
@@ -15,14 +15,14 @@ use srr_entry::known::Known;
 
 /// A rank of a run on so many ranks.
 #[derive(Clone, Copy)]
-pub struct Owner {
+pub struct RunRank {
     pub ranks: u8,
     pub rank: u8,
 }
 
 /// The least and the greatest of some ranks.
 #[derive(Clone, Copy)]
-pub struct Span {
+pub struct RankBounds {
     pub least: u8,
     pub greatest: u8,
 }
@@ -40,7 +40,7 @@ fn greater(a: u8, b: u8) -> u8
 }
 
 /// The span with a member more, where the rank's Enter needs it.
-fn with_needed(span: Span, call: &Call, members: &Ranks, rank: u8, member: u8) -> Span
+fn with_needed(span: RankBounds, call: &Call, members: &Ranks, rank: u8, member: u8) -> RankBounds
     requires form { IsEnterOf call.now members.now rank }
     requires rank { is_member members.now rank ≡ true }
     requires member { is_member members.now member ≡ true }
@@ -52,20 +52,20 @@ fn with_needed(span: Span, call: &Call, members: &Ranks, rank: u8, member: u8) -
     if !needs(call, members, rank, member) {
         return span;
     }
-    Span {
+    RankBounds {
         least: lesser(span.least, member),
         greatest: greater(span.greatest, member),
     }
 }
 
 /// The span of a rank and the members that its Enter needs.
-fn needed_span(call: &Call, members: &Ranks, rank: u8) -> Span
+fn needed_span(call: &Call, members: &Ranks, rank: u8) -> RankBounds
     requires form { IsEnterOf call.now members.now rank }
     requires member { is_member members.now rank ≡ true }
     ensures { (begin end : ℕ) → HasRank rank begin end
         → all_within (block_ranks begin end) (needs call.now members.now rank) members.now ≡ is_within begin end result.least result.greatest }
 {
-    let mut span = Span {
+    let mut span = RankBounds {
         least: rank,
         greatest: rank,
     };
@@ -78,12 +78,12 @@ fn needed_span(call: &Call, members: &Ranks, rank: u8) -> Span
 }
 
 /// The span of the rank and of those that its start's result came from. A start that was never made has the span of no block.
-pub fn span_of(owner: &Owner, known: &Known<'_>, start: u32) -> Span
+pub fn span_of(owner: &RunRank, known: &Known<'_>, start: u32) -> RankBounds
     requires { (own : View) × IsKnownOf owner.now.ranks own known.now × IsInOrder owner.now.ranks owner.now.rank own }
     ensures { (own : View) (begin end : ℕ) → IsKnownOf owner.now.ranks own known.now → HasRank owner.now.rank begin end
         → is_inner owner.now.ranks (block_ranks begin end) owner.now.rank own (start_at own start) ≡ is_within begin end result.least result.greatest }
 {
-    let alone = Span {
+    let alone = RankBounds {
         least: owner.rank,
         greatest: owner.rank,
     };
@@ -95,7 +95,7 @@ pub fn span_of(owner: &Owner, known: &Known<'_>, start: u32) -> Span
             },
             _ => alone,
         },
-        None => Span {
+        None => RankBounds {
             least: 0,
             greatest: u8::MAX,
         },

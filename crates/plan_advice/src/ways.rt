@@ -1,7 +1,7 @@
 //! The cheapest ways to cut the first ranks into blocks.
 ghost use Rattle.std.specs.Prelude.{◌≡◌, ◌≤◌, ◌<◌, ◌*◌, ◌^◌, [], IfOk, OnOk, if◌then◌else◌, length, nat_lt};
 ghost use Rattle.plan_advice.specs.Costs.{block_cost};
-ghost use Rattle.plan_advice.specs.Ways.{AreFalling, AreLed, AreSmall, AreWays, IsCheapest, cost_by};
+ghost use Rattle.plan_advice.specs.inside.Ways.{AreFalling, AreLed, AreSmallCosts, AreWays, IsCheapest, cost_by};
 
 use crate::advice::Bounds;
 use crate::costs::Costs;
@@ -10,7 +10,7 @@ use std::alloc::{AllocError, Global};
 
 /// The beginning of a last block, and what the cheapest cutting that ends with this block costs.
 #[derive(Clone, Copy)]
-pub struct Way {
+pub struct LastBlock {
     pub begin: u8,
     pub cost: u64,
 }
@@ -23,35 +23,35 @@ pub struct Ways {
 }
 
 /// The way to `end` by a block from `begin`.
-fn way_by(costs: &Costs<'_>, bounds: &[u64], begin: u8, end: u8) -> Way
+fn way_by(costs: &Costs<'_>, bounds: &[u64], begin: u8, end: u8) -> LastBlock
     requires some { begin < end }
     requires within { end ≤ costs.now.ranks }
     requires many { length bounds.now ≡ end }
-    requires small { AreSmall bounds.now }
+    requires small { AreSmallCosts bounds.now }
     ensures begin { result.begin ≡ begin }
     ensures cost { result.cost ≡ cost_by (block_cost costs.now.ranks costs.now.events) bounds.now begin end }
     ensures small { result.cost ≤ end * 2 ^ 32 }
 {
-    Way {
+    LastBlock {
         begin,
         cost: bounds[begin as usize] + costs.block(begin, end),
     }
 }
 
 /// The cheaper of two ways, the first if they cost the same.
-fn cheaper(one: Way, other: Way) -> Way
+fn cheaper(one: LastBlock, other: LastBlock) -> LastBlock
     ensures { result ≡ (if nat_lt other.cost one.cost then other else one) }
 {
     if other.cost < one.cost { other } else { one }
 }
 
 /// The first of the cheapest ways to `end`.
-fn cheapest(costs: &Costs<'_>, bounds: &[u64], most: u8, end: u8) -> Way
+fn cheapest(costs: &Costs<'_>, bounds: &[u64], most: u8, end: u8) -> LastBlock
     requires some { 0 < most }
     requires end { 0 < end }
     requires within { end ≤ costs.now.ranks }
     requires many { length bounds.now ≡ end }
-    requires small { AreSmall bounds.now }
+    requires small { AreSmallCosts bounds.now }
     ensures way { IsCheapest (block_cost costs.now.ranks costs.now.events) most bounds.now end end result }
     ensures small { result.cost ≤ end * 2 ^ 32 }
 {

@@ -12,14 +12,14 @@ use Rattle.run_model.specs.Allowed.{is_prompt}
 use Rattle.run_model.specs.Chosen.{halt_or}
 use Rattle.run_model.specs.Due.{due, halt_at, halted, is_full, is_mismatched, total_size}
 use Rattle.run_model.specs.Serial.{call_after}
-use Rattle.run_model.specs.Views.{Next, View, replies_in, view_of}
+use Rattle.run_model.specs.Views.{Next, View, moment_at, replies_in, view_of}
 use Rattle.run_model.proofs.Views.{test_cases, view_of-other}
 use Rattle.picked_runs.specs.declared.turn.Pick.TheVariants.{First}
 use Rattle.picked_runs.specs.Picks.{picked_answer, picked_event}
 use Rattle.run_states.specs.Futures.{SameFuture}
 use Rattle.run_states.specs.Moves.{HasNoPick, IsHalting}
 use Rattle.quiet_calls.specs.Quiet.{IsAgreed, Races, is_calm, is_reckoned}
-use Rattle.quiet_calls.specs.Closure.{AreClosedQuietly, AreReckonedWith, IsFarBelow, IsOnItsWay, IsQuietCallMet}
+use Rattle.quiet_calls.specs.Closure.{AreClosedQuietly, AreReckonedWith, IsFarBelow, IsOnItsWay, IsQuietCallMet, met_histories}
 use Rattle.quiet_calls.proofs.Room.{not_full}
 use Rattle.quiet_calls.proofs.Diamond.{IsFirst, nothing_due}
 use Rattle.quiet_calls.proofs.GoingFirst.{quiet_first}
@@ -51,7 +51,7 @@ mismatch_due n before me (Enter comm kind root op count ints) h none full t = rw
 mismatch_due n before me call h none full t = absurd (cc)
 
 mismatch_halts : (next : Next) (n : ℕ) (before : List Event) (me : ℕ) (call : Call) → me < n → call_after next n before me ≡ Some call → is_enter call ≡ true
-    → due n before me (view_of before me) call ≡ Some (Mismatched me) → IsHalting next n before me call First (Mismatched me)
+    → due n before me (view_of before me) call ≡ Some (Mismatched me) → IsHalting next (moment_at n before me) call First (Mismatched me)
 mismatch_halts next n before me call below asked enters is =
     record {
       below = below;
@@ -136,7 +136,7 @@ quiet_agreed next n races visited one quiet later rank call below asked enters =
     ]
 
 by_room : (next : Next) (n : ℕ) (races : Races) (root : List Event) (IsWanted : List Event → Event → Type 0) (opened visited : List (List Event))
-    → AreClosedQuietly next n races root IsWanted opened visited → AreReckonedWith next n races opened visited → races.partial ≡ false
+    → AreClosedQuietly next n races root IsWanted (met_histories opened visited) → AreReckonedWith next n races opened visited → races.partial ≡ false
     → (k : ℕ) (one : List Event) → IsIn one visited → MOST_EVENTS ≤ length one + k → AreEntersAgreed next n one
 by_room next n races root IsWanted opened visited c r whole zero one there enough = absurd (none_left (length one) MOST_EVENTS (c.runs one there).below.count enough)
 by_room next n races root IsWanted opened visited c r whole (suc k) one there enough =
@@ -150,7 +150,7 @@ by_room next n races root IsWanted opened visited c r whole (suc k) one there en
     ]
 
 pub all_reckoned : (next : Next) (n : ℕ) (races : Races) (root : List Event) (IsWanted : List Event → Event → Type 0) (opened visited : List (List Event))
-    → AreClosedQuietly next n races root IsWanted opened visited → AreReckonedWith next n races opened visited → AreAllReckonedWith next n races visited
+    → AreClosedQuietly next n races root IsWanted (met_histories opened visited) → AreReckonedWith next n races opened visited → AreAllReckonedWith next n races visited
 all_reckoned next n races root IsWanted opened visited c r =
     record {
       past = r.past;

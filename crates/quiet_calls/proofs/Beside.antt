@@ -11,9 +11,9 @@ use Rattle.mpi_call.specs.declared.reply.Got.TheVariants.{Nothing}
 use Rattle.mpi_call.specs.declared.reply.Reply.{Reply}
 use Rattle.mpi_call.specs.Acceptance.{accepts}
 use Rattle.run_model.specs.declared.event.Event.{Event}
-use Rattle.run_model.specs.Allowed.{has_open, open_in}
+use Rattle.run_model.specs.Allowed.{has_open, open_in, probe_of}
 use Rattle.run_model.specs.Choice.{choice, suits}
-use Rattle.run_model.specs.Chosen.{message_in, message_of}
+use Rattle.run_model.specs.Chosen.{message_of_pair, message_of}
 use Rattle.run_model.specs.Communicators.{Entered, enter_at, entered_from, is_on, known_after, known_first}
 use Rattle.run_model.specs.Lists.{world}
 use Rattle.run_model.specs.Numbers.{communicators_of, made_at}
@@ -121,16 +121,16 @@ pub message_stays : (before : List Event) (event : Event) → IsStill event → 
 message_stays before event still None = refl
 message_stays before event still (Some name) =
     elim (option_cases (named before name)) [
-      | inl some ↦ ap (message_in name) (named_on before (event ∷ []) name some.0 some.1 ∙ sym some.1)
+      | inl some ↦ ap (message_of_pair name) (named_on before (event ∷ []) name some.0 some.1 ∙ sym some.1)
       | inr none ↦ elim (option_cases (named (before ++ event ∷ []) name)) [
         | inl new ↦ elim (named_back before event name new.0 new.1) [
           | inl was ↦ (let no : None ≡ Some new.0 = sym none ∙ was in absurd (cc))
           | inr here ↦
-              let F : Call → Type 0 = λ c. message_in name (Some c) ≡ Nothing in
-              let nothing : message_in name (Some new.0) ≡ Nothing = subst F here (still_message name event.call still.call) in
-              ap (message_in name) new.1 ∙ (nothing ∙ sym (ap (message_in name) none))
+              let F : Call → Type 0 = λ c. message_of_pair name (Some c) ≡ Nothing in
+              let nothing : message_of_pair name (Some new.0) ≡ Nothing = subst F here (still_message name event.call still.call) in
+              ap (message_of_pair name) new.1 ∙ (nothing ∙ sym (ap (message_of_pair name) none))
         ]
-        | inr free ↦ ap (message_in name) (free ∙ sym none)
+        | inr free ↦ ap (message_of_pair name) (free ∙ sym none)
       ]
     ]
 
@@ -187,7 +187,7 @@ or_false true = refl
 or_false false = refl
 
 open_in-more : (pairs : List (Name × Name)) (me comm : ℕ) (source : Source) (tag : Tag) (sender start : ℕ) (calls : List Call) (call : Call) → is_still call ≡ true
-    → open_in pairs me comm source tag sender start (calls ++ call ∷ []) ≡ open_in pairs me comm source tag sender start calls
+    → open_in pairs (probe_of me comm source tag) sender start (calls ++ call ∷ []) ≡ open_in pairs (probe_of me comm source tag) sender start calls
 open_in-more pairs me comm source tag sender start [] call h =
     ap (λ (b : Bool). (b && not (is_some (partner_of pairs (sender, start)))) || false) (accepts_still me comm source tag sender call h)
 open_in-more pairs me comm source tag sender start (c ∷ calls) call h =
@@ -200,10 +200,10 @@ starts_more before event rank same =
     ap starts_of (view_of-mine before event rank same) ∙ starts_of-append (view_of before rank) ((event.call, event.reply) ∷ [])
 
 looked_stays : (before : List Event) (event : Event) → IsStill event → (me comm : ℕ) (source : Source) (tag : Tag) (sender : ℕ)
-    → open_in (pairs_of (before ++ event ∷ [])) me comm source tag sender 0 (starts_of (view_of (before ++ event ∷ []) sender))
-    ≡ open_in (pairs_of before) me comm source tag sender 0 (starts_of (view_of before sender))
+    → open_in (pairs_of (before ++ event ∷ [])) (probe_of me comm source tag) sender 0 (starts_of (view_of (before ++ event ∷ []) sender))
+    ≡ open_in (pairs_of before) (probe_of me comm source tag) sender 0 (starts_of (view_of before sender))
 looked_stays before event still me comm source tag sender =
-    let look : List (Name × Name) → List Call → Bool = λ pairs calls. open_in pairs me comm source tag sender 0 calls in
+    let look : List (Name × Name) → List Call → Bool = λ pairs calls. open_in pairs (probe_of me comm source tag) sender 0 calls in
     let calls : List Call = starts_of (view_of before sender) in
     let starts : look (pairs_of before) (starts_of (view_of (before ++ event ∷ []) sender)) ≡ look (pairs_of before) calls =
     elim (test_cases (event.rank == sender)) [

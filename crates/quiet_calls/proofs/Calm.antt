@@ -19,7 +19,7 @@ use Rattle.run_model.specs.Due.{disagrees, due, halt_at, halted, is_full, is_mis
 use Rattle.run_model.specs.Lists.{world}
 use Rattle.run_model.specs.Pairs.{IsMatched}
 use Rattle.run_model.specs.Readiness.{is_ready}
-use Rattle.run_model.specs.Views.{View, is_start, start_at, starts_of, view_of}
+use Rattle.run_model.specs.Views.{View, is_start, moment_of, start_at, starts_of, view_of}
 use Rattle.run_model.proofs.Numbered.{AllMade}
 use Rattle.run_model.proofs.Views.{option_cases, test_cases}
 use Rattle.picked_runs.specs.declared.turn.Pick.{Pick}
@@ -98,11 +98,11 @@ due_off n before event off halts full me seen call =
 
 -- 3. the reply
 
-pub all_true : (n : ℕ) (before : List Event) (event : Event) (me : ℕ) (own : View) (starts : List ℕ) → list_all (λ x. x) (flags_of n before me own starts) ≡ true
-    → list_all (λ x. x) (flags_of n (before ++ event ∷ []) me own starts) ≡ true
+pub all_true : (n : ℕ) (before : List Event) (event : Event) (me : ℕ) (own : View) (starts : List ℕ) → list_all (λ x. x) (flags_of (moment_of n before me own) starts) ≡ true
+    → list_all (λ x. x) (flags_of (moment_of n (before ++ event ∷ []) me own) starts) ≡ true
 all_true n before event me own starts h =
-    let first : ℕ → Bool = λ k. is_ready n before me own k (start_at own k) in
-    let second : ℕ → Bool = λ k. is_ready n (before ++ event ∷ []) me own k (start_at own k) in
+    let first : ℕ → Bool = λ k. is_ready (moment_of n before me own) k (start_at own k) in
+    let second : ℕ → Bool = λ k. is_ready (moment_of n (before ++ event ∷ []) me own) k (start_at own k) in
     ap (list_all (λ (x : Bool). x)) (all_same first second starts (λ k t. ready_on n before event me own k (start_at own k) t) h) ∙ h
 
 -- where the call can be answered

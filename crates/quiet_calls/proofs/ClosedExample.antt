@@ -14,9 +14,9 @@ use Rattle.run_model.proofs.RunLaws.{Lawful}
 use Rattle.picked_runs.specs.declared.turn.Pick.TheVariants.{First}
 use Rattle.picked_runs.specs.Picks.{picked_event}
 use Rattle.run_states.specs.Futures.{SameFuture}
-use Rattle.run_states.specs.Moves.{IsMet}
+use Rattle.run_states.specs.Moves.{IsVisited}
 use Rattle.run_states.specs.Outcomes.{IsProbeKept}
-use Rattle.quiet_calls.specs.Closure.{AreClosedQuietly, AreMovesMet, IsOnItsWay, IsQuietCallMet, any_race}
+use Rattle.quiet_calls.specs.Closure.{AreClosedQuietly, AreMovesMet, IsOnItsWay, IsQuietCallMet, any_race, met_histories}
 use Rattle.quiet_calls.proofs.Runs.{IsGood}
 use Rattle.quiet_calls.proofs.Commuting.{first_run}
 
@@ -139,7 +139,7 @@ none_left zero call pick move kept = (let no : None ≡ Some call = move.asked i
 none_left (suc zero) call pick move kept = (let no : None ≡ Some call = move.asked in absurd (cc))
 none_left (suc (suc rank)) call pick move kept = (let below : suc (suc rank) < 2 = move.below in absurd (omega (arith, below)))
 
-closed : AreClosedQuietly ends_at_once 2 any_race [] IsProbeKept (both_ended ∷ []) three
+closed : AreClosedQuietly ends_at_once 2 any_race [] IsProbeKept (met_histories (both_ended ∷ []) three)
 closed =
     record {
       first = ([], inl refl, itself []);
@@ -188,7 +188,7 @@ never one idle ended there =
       ]
     ]
 
-not_met : IsMet 2 three (picked_event 2 [] 1 End First ∷ []) → ⊥
+not_met : IsVisited 2 three (picked_event 2 [] 1 End First ∷ []) → ⊥
 not_met met =
     let other : View = (End, Done) ∷ [] in
     let seen : view_of met.0 1 ≡ other = met.2.views 1 in

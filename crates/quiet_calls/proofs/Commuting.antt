@@ -4,7 +4,7 @@ use Rattle.mpi_call.specs.declared.call.Call.{Call}
 use Rattle.mpi_call.specs.declared.call.Halt.{Halt}
 use Rattle.run_model.specs.declared.event.Event.{Event}
 use Rattle.run_model.specs.Allowed.{IsStuck, can_go}
-use Rattle.run_model.specs.Due.{halt_in, halted, is_full, or_else}
+use Rattle.run_model.specs.Due.{halt_of_reply, halted, is_full, or_else}
 use Rattle.run_model.specs.Pairs.{IsMatched}
 use Rattle.run_model.specs.Run.{IsEvent}
 use Rattle.run_model.specs.Serial.{call_after}
@@ -18,7 +18,7 @@ use Rattle.picked_runs.specs.Numbering.{IsNumberedInOrder}
 use Rattle.picked_runs.specs.Picks.{has_pick, picked_event}
 use Rattle.picked_runs.specs.Picked.{IsPickedEvent}
 use Rattle.picked_runs.proofs.Making.{event_picked}
-use Rattle.run_states.specs.Futures.{SameFuture, mate_in}
+use Rattle.run_states.specs.Futures.{SameFuture, mate_name}
 use Rattle.run_states.specs.Outcomes.{IsProbeKept}
 use Rattle.quiet_calls.proofs.Still.{IsStill}
 use Rattle.quiet_calls.proofs.Unseen.{LeavesAlone, still_leaves, unseen}
@@ -39,10 +39,10 @@ or_else-last (Some halt) = refl
 
 pub halted_append : (xs ys : List Event) → halted (xs ++ ys) ≡ or_else (halted xs) (halted ys)
 halted_append [] ys = refl
-halted_append (x ∷ xs) ys = rw (halted_append xs ys) (or_else-more (halt_in x.reply) (halted xs) (halted ys))
+halted_append (x ∷ xs) ys = rw (halted_append xs ys) (or_else-more (halt_of_reply x.reply) (halted xs) (halted ys))
 
-pub halted_more : (before : List Event) (event : Event) → halted (before ++ event ∷ []) ≡ or_else (halted before) (halt_in event.reply)
-halted_more before event = halted_append before (event ∷ []) ∙ ap (or_else (halted before)) (or_else-last (halt_in event.reply))
+pub halted_more : (before : List Event) (event : Event) → halted (before ++ event ∷ []) ≡ or_else (halted before) (halt_of_reply event.reply)
+halted_more before event = halted_append before (event ∷ []) ∙ ap (or_else (halted before)) (or_else-last (halt_of_reply event.reply))
 
 none_front : (a b : Option Halt) → or_else a b ≡ None → a ≡ None
 none_front None b h = refl
@@ -146,7 +146,7 @@ own_event next n lawful before me call x good is step ordered same =
 
 -- 5. probes
 
-pub probe_on : (before after : List Event) (event : Event) → view_of after event.rank ≡ view_of before event.rank → mate_in after event.mate ≡ mate_in before event.mate
+pub probe_on : (before after : List Event) (event : Event) → view_of after event.rank ≡ view_of before event.rank → mate_name after event.mate ≡ mate_name before event.mate
     → IsProbeKept before event → IsProbeKept after event
 probe_on before after event view mate kept earlier comm source tag wait room sender start sent count seen posted done =
     mate ∙ kept earlier comm source tag wait room sender start sent count (sym view ∙ seen) posted done
@@ -159,4 +159,4 @@ other_probe next n before q x step apart kept =
 pub own_probe : (before : List Event) (q x : Event) → IsStill q → (x.rank == q.rank) ≡ false → IsProbeKept before q → IsProbeKept (before ++ x ∷ []) q
 own_probe before q x still apart kept =
     probe_on before (before ++ x ∷ []) q (view_of-other before x q.rank apart)
-    (ap (mate_in (before ++ x ∷ [])) still.mate ∙ sym (ap (mate_in before) still.mate)) kept
+    (ap (mate_name (before ++ x ∷ [])) still.mate ∙ sym (ap (mate_name before) still.mate)) kept

@@ -14,7 +14,7 @@ use Rattle.run_model.proofs.Positions.{new_name}
 use Rattle.run_model.proofs.Views.{option_cases, test_cases, view_of-append, view_of-mine, view_of-other}
 use Rattle.picked_runs.proofs.Grown.{pairs_of-push}
 use Rattle.picked_runs.proofs.Pairing.{same_name-true}
-use Rattle.run_states.specs.Futures.{SameFuture, mate_in}
+use Rattle.run_states.specs.Futures.{SameFuture, mate_name}
 use Rattle.quiet_calls.proofs.Named.{named_makes, named_off, other_of}
 use Rattle.quiet_calls.proofs.Beside.{enter_beside}
 use Rattle.quiet_calls.proofs.Swapping.{made_with, pair_is, views_swapped}
@@ -87,9 +87,9 @@ partners_swapped P A B apart name =
 
 -- the pair that an event makes is of its own start and of its mate
 partner_in : (before : List Event) (event : Event) (name other : Name) → partner_of (pair_of before event) name ≡ Some other
-    → (mate_in before event.mate ≡ Some name) ⊎ ((new_name before event ≡ name) × (mate : Name) × (mate_in before event.mate ≡ Some mate))
+    → (mate_name before event.mate ≡ Some name) ⊎ ((new_name before event ≡ name) × (mate : Name) × (mate_name before event.mate ≡ Some mate))
 partner_in before event name other h =
-    elim (option_cases (mate_in before event.mate)) [
+    elim (option_cases (mate_name before event.mate)) [
       | inl some ↦
           let one : pair_of before event ≡ (some.0, new_name before event) ∷ [] = pair_is before event ∙ ap (λ m. pair_with m (new_name before event)) some.1 in
           let there : partner_of ((some.0, new_name before event) ∷ []) name ≡ Some other = ap (λ l. partner_of l name) (sym one) ∙ h in
@@ -110,7 +110,7 @@ partner_in before event name other h =
 
 -- the start that an event takes was there, and the event's call suits it
 abbrev pub HasStart : List Event → Event → Type 0
-HasStart before event = (name : Name) → mate_in before event.mate ≡ Some name → (start : Call) × (named before name ≡ Some start) × (suits event.rank event.call name.0 start ≡ true)
+HasStart before event = (name : Name) → mate_name before event.mate ≡ Some name → (start : Call) × (named before name ≡ Some start) × (suits event.rank event.call name.0 start ≡ true)
 
 pairs_apart : (before : List Event) (x q : Event) → (x.rank == q.rank) ≡ false → HasStart before x → HasStart before q → TakesNone before x q.rank q.call
     → AreApart (pair_of before x) (pair_of before q)
@@ -135,13 +135,13 @@ pairs_apart before x q apart xs qs none name =
       ]
     ]
 
-pub pair_beside : (before : List Event) (other event : Event) → mate_in (before ++ other ∷ []) event.mate ≡ mate_in before event.mate → (other.rank == event.rank) ≡ false
+pub pair_beside : (before : List Event) (other event : Event) → mate_name (before ++ other ∷ []) event.mate ≡ mate_name before event.mate → (other.rank == event.rank) ≡ false
     → pair_of (before ++ other ∷ []) event ≡ pair_of before event
 pair_beside before other event mate apart =
     let count : View → Name = λ v. (event.rank, length (starts_of v)) in
     pair_is (before ++ other ∷ []) event
     ∙ (ap (λ m. pair_with m (new_name (before ++ other ∷ []) event)) mate
-    ∙ (ap (λ (v : View). pair_with (mate_in before event.mate) (count v)) (view_of-other before other event.rank apart) ∙ sym (pair_is before event)))
+    ∙ (ap (λ (v : View). pair_with (mate_name before event.mate) (count v)) (view_of-other before other event.rank apart) ∙ sym (pair_is before event)))
 
 -- an event with another mate
 abbrev pub with_mate : Event → Option ℕ → Event
@@ -179,8 +179,8 @@ views_beside before x q m k apart rank =
 
 -- they take nothing of each other
 pub future_beside : (n : ℕ) (before : List Event) (x q : Event) (w : ℕ) → other_of q.call ≡ Some w → (x.rank == q.rank) ≡ false → (q.rank == x.rank) ≡ false
-    → HasStart before x → HasStart before q → TakesNone before x q.rank q.call → mate_in (before ++ x ∷ []) q.mate ≡ mate_in before q.mate
-    → mate_in (before ++ q ∷ []) x.mate ≡ mate_in before x.mate → SameFuture n ((before ++ x ∷ []) ++ q ∷ []) ((before ++ q ∷ []) ++ x ∷ [])
+    → HasStart before x → HasStart before q → TakesNone before x q.rank q.call → mate_name (before ++ x ∷ []) q.mate ≡ mate_name before q.mate
+    → mate_name (before ++ q ∷ []) x.mate ≡ mate_name before x.mate → SameFuture n ((before ++ x ∷ []) ++ q ∷ []) ((before ++ q ∷ []) ++ x ∷ [])
 future_beside n before x q w named apart apart' xs qs none qm xm =
     let P : List (Name × Name) = pairs_of before in
     let A : List (Name × Name) = pair_of before x in
@@ -209,7 +209,7 @@ either_pair a b name apart =
       ]
     ]
 
-pub pair_none : (before : List Event) (event : Event) → mate_in before event.mate ≡ None → pair_of before event ≡ []
+pub pair_none : (before : List Event) (event : Event) → mate_name before event.mate ≡ None → pair_of before event ≡ []
 pair_none before event none = pair_is before event ∙ ap (λ m. pair_with m (new_name before event)) none
 
 pair_last : (before : List Event) (other event : Event) → is_start (other.call, other.reply) ≡ true → (other.rank == event.rank) ≡ false
@@ -221,7 +221,7 @@ pair_last before other event starts apart =
     ∙ ap (λ (v : View). pair (new_name before other) v) (view_of-other before other event.rank apart))
 
 pub future_crossed : (n : ℕ) (before : List Event) (x q : Event) (w : ℕ) → other_of q.call ≡ Some w → (x.rank == q.rank) ≡ false → (q.rank == x.rank) ≡ false
-    → is_start (x.call, x.reply) ≡ true → is_start (q.call, q.reply) ≡ true → mate_in before x.mate ≡ None → mate_in before q.mate ≡ None
+    → is_start (x.call, x.reply) ≡ true → is_start (q.call, q.reply) ≡ true → mate_name before x.mate ≡ None → mate_name before q.mate ≡ None
     → SameFuture n ((before ++ x ∷ []) ++ with_mate q (Some (length before)) ∷ []) ((before ++ q ∷ []) ++ with_mate x (Some (length before)) ∷ [])
 future_crossed n before x q w named apart apart' xstart qstart xm qm =
     let P : List (Name × Name) = pairs_of before in

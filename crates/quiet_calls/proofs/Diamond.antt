@@ -10,7 +10,7 @@ use Rattle.mpi_call.specs.declared.reply.Reply.TheVariants.{NotYet, Stopped}
 use Rattle.mpi_call.specs.Calls.{is_enter, is_starting, makes}
 use Rattle.run_model.specs.declared.event.Event.{Event}
 use Rattle.run_model.specs.Allowed.{IsStuck}
-use Rattle.run_model.specs.Due.{due, halt_in, halted, is_full, or_else}
+use Rattle.run_model.specs.Due.{due, halt_of_reply, halted, is_full, or_else}
 use Rattle.run_model.specs.Pairs.{IsMatched, Name, named}
 use Rattle.run_model.specs.Run.{IsEvent}
 use Rattle.run_model.specs.Serial.{call_after}
@@ -47,11 +47,11 @@ use Rattle.quiet_calls.proofs.EnterSwap.{IsEnterAsked, IsEnterWith, enter_behind
 record CalmHead (races : Races) (event : Event) (events : List Event) : Type 0 where
   ranks : (races.ranks event.rank || not (is_racy event.call)) ≡ true
   whole : (races.partial || not (is_partial event.call)) ≡ true
-  rest : (is_some (halt_in event.reply) || is_calm races events) ≡ true
+  rest : (is_some (halt_of_reply event.reply) || is_calm races events) ≡ true
 
 calm_head : (races : Races) (event : Event) (events : List Event) → is_calm races (event ∷ events) ≡ true → CalmHead races event events
 calm_head races event events h =
-    let later : Bool = is_some (halt_in event.reply) || is_calm races events in
+    let later : Bool = is_some (halt_of_reply event.reply) || is_calm races events in
     let parts = and_parts (is_reckoned races event.rank event.call) later h in
     let reckoned = and_parts (races.ranks event.rank || not (is_racy event.call)) (races.partial || not (is_partial event.call)) parts.0 in
     record { ranks = reckoned.0; whole = reckoned.1; rest = parts.1 }
@@ -60,8 +60,8 @@ calm_on : (a b : Bool) → (a || b) ≡ true → a ≡ false → b ≡ true
 calm_on true b h f = absurd (cc)
 calm_on false b h f = h
 
-calm_tail : (races : Races) (event : Event) (events : List Event) → is_calm races (event ∷ events) ≡ true → halt_in event.reply ≡ None → is_calm races events ≡ true
-calm_tail races event events h free = calm_on (is_some (halt_in event.reply)) (is_calm races events) (calm_head races event events h).rest (ap is_some free)
+calm_tail : (races : Races) (event : Event) (events : List Event) → is_calm races (event ∷ events) ≡ true → halt_of_reply event.reply ≡ None → is_calm races events ≡ true
+calm_tail races event events h free = calm_on (is_some (halt_of_reply event.reply)) (is_calm races events) (calm_head races event events h).rest (ap is_some free)
 
 -- an event of another rank than the racy ones is no racy call
 not_racy : (a b : Bool) → (a || not b) ≡ true → a ≡ false → b ≡ false
@@ -74,7 +74,7 @@ pub calm_next : (races : Races) (before : List Event) (x : Event) (after : List 
     → races.ranks x.rank ≡ false → is_racy x.call ≡ false
 calm_next races [] x after h free f = not_racy (races.ranks x.rank) (is_racy x.call) (calm_head races x after h).ranks f
 calm_next races (event ∷ before) x after h free f =
-    let parts = none_parts (halt_in event.reply) (halted before) free in
+    let parts = none_parts (halt_of_reply event.reply) (halted before) free in
     calm_next races before x after (calm_tail races event (before ++ x ∷ after) h parts.0) parts.1 f
 
 -- and completes all it lists, where nothing is completed in part
@@ -82,7 +82,7 @@ pub calm_whole : (races : Races) (before : List Event) (x : Event) (after : List
     → races.partial ≡ false → is_partial x.call ≡ false
 calm_whole races [] x after h free f = not_racy races.partial (is_partial x.call) (calm_head races x after h).whole f
 calm_whole races (event ∷ before) x after h free f =
-    let parts = none_parts (halt_in event.reply) (halted before) free in
+    let parts = none_parts (halt_of_reply event.reply) (halted before) free in
     calm_whole races before x after (calm_tail races event (before ++ x ∷ after) h parts.0) parts.1 f
 
 -- and its starts
@@ -98,7 +98,7 @@ calm_starts : (races : Races) (events after : List Event) (rank k : ℕ) (start 
     → slice_get (starts_of (view_of events rank)) k ≡ Some start → is_racy start ≡ false
 calm_starts races [] after rank k start h free f there = absurd (cc)
 calm_starts races (event ∷ events) after rank k start h free f there =
-    let parts = none_parts (halt_in event.reply) (halted events) free in
+    let parts = none_parts (halt_of_reply event.reply) (halted events) free in
     let calm : is_calm races (events ++ after) ≡ true = calm_tail races event (events ++ after) h parts.0 in
     elim (test_cases (event.rank == rank)) [
       | inl t ↦ elim (test_cases (is_start (event.call, event.reply))) [
@@ -174,7 +174,7 @@ pub record IsFirst (next : Next) (n : ℕ) (races : Races) (before : List Event)
   pub below : me < n
   pub asked : call_after next n before me ≡ Some call
   pub event : picked_event n before me call First ≡ q
-  pub free : halt_in q.reply ≡ None
+  pub free : halt_of_reply q.reply ≡ None
   pub ready : q.reply ≢ NotYet
   pub probe : IsProbeKept before q
 
@@ -182,14 +182,14 @@ steady : (next : Next) (n : ℕ) (races : Races) (before : List Event) (me : ℕ
     → IsAsked next n before me call
 steady next n races before me call q f kind =
     let reply : q.reply ≡ picked_reply n before me call First = ap (λ (e : Event). e.reply) (sym f.event) in
-    let F : Reply → Type 0 = λ r. halt_in r ≡ None in
+    let F : Reply → Type 0 = λ r. halt_of_reply r ≡ None in
     let G : Reply → Type 0 = λ r. r ≢ NotYet in
     record { below = f.below; asked = f.asked; answered = record { kind = kind; free = subst F reply f.free; ready = subst G reply f.ready } }
 
 pub nothing_due : (next : Next) (n : ℕ) (races : Races) (before : List Event) (me : ℕ) (call : Call) (q : Event) → IsFirst next n races before me call q
     → due n before me (view_of before me) call ≡ None
 nothing_due next n races before me call q f =
-    let F : Event → Type 0 = λ e. halt_in e.reply ≡ None in
+    let F : Event → Type 0 = λ e. halt_of_reply e.reply ≡ None in
     reply_free n before me call First (subst F (sym f.event) f.free)
 
 namely : (next : Next) (n : ℕ) (races : Races) (before after : List Event) (me : ℕ) (call : Call) (q : Event) → IsFirst next n races before me call q → (k : IsNamedCall races call)
@@ -318,7 +318,7 @@ named_diamond next n races before me call x f apart s =
         below = f.below;
         asked = asked_on next n before x me call apart f.asked;
         event = s.later_is;
-        free = ap halt_in s.reply ∙ f.free;
+        free = ap halt_of_reply s.reply ∙ f.free;
         ready = subst R (sym s.reply) f.ready;
         probe = s.own f.probe;
       };

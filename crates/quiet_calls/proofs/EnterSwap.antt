@@ -18,15 +18,15 @@ use Rattle.run_model.specs.declared.event.Event.{Event}
 use Rattle.run_model.specs.Allowed.{IsStuck, can_go, flags_of, has_open, is_prompt}
 use Rattle.run_model.specs.Choice.{choice}
 use Rattle.run_model.specs.Chosen.{halt_or, peek_reply}
-use Rattle.run_model.specs.Communicators.{Entered, count_on, enter_at, instance_of, is_on, members_in}
-use Rattle.run_model.specs.Due.{disagrees, due, halt_at, halt_in, halted, is_full, is_mismatched, or_else}
+use Rattle.run_model.specs.Communicators.{Entered, count_on, enter_at, instance_of, is_on, members_for_rank}
+use Rattle.run_model.specs.Due.{disagrees, due, halt_at, halt_of_reply, halted, is_full, is_mismatched, or_else}
 use Rattle.run_model.specs.Inputs.{gather}
 use Rattle.run_model.specs.Lists.{world}
 use Rattle.run_model.specs.Numbers.{Origin, communicators_of, made_at, origins_from}
 use Rattle.run_model.specs.Pairs.{IsMatched, Name, pair_of, pairs_of, partner_of}
 use Rattle.run_model.specs.Run.{IsEvent}
 use Rattle.run_model.specs.Serial.{call_after}
-use Rattle.run_model.specs.Views.{Next, View, is_start, replies_in, starts_of, view_of}
+use Rattle.run_model.specs.Views.{Next, View, is_start, moment_at, replies_in, starts_of, view_of}
 use Rattle.run_model.proofs.Enters.{enter_back}
 use Rattle.run_model.proofs.Instances.{on_own}
 use Rattle.run_model.proofs.Numbered.{AllMade, communicators_of-push}
@@ -42,7 +42,7 @@ use Rattle.picked_runs.specs.Picked.{IsPickedEvent}
 use Rattle.picked_runs.specs.Picks.{completes_one, has_pick, is_ready_at, looking, looks, picked_answer, picked_event, picked_mate, picked_reply}
 use Rattle.picked_runs.proofs.Grown.{pairs_of-push}
 use Rattle.picked_runs.proofs.Making.{event_picked}
-use Rattle.run_states.specs.Futures.{SameFuture, mate_in}
+use Rattle.run_states.specs.Futures.{SameFuture, mate_name}
 use Rattle.quiet_calls.specs.Quiet.{is_partial}
 use Rattle.quiet_calls.proofs.Unseen.{due_by, peeked_stays}
 use Rattle.quiet_calls.proofs.Staying.{all_on, free_due, free_parts, reply_answer}
@@ -111,7 +111,7 @@ enter_first_run next n lawful before me call good is =
 -- 2. what is open to others
 
 takes_nothing : (before : List Event) (q : Event) (p : ℕ) (d : Call) → q.mate ≡ None → TakesNone before q p d
-takes_nothing before q p d alone name start h made suited = (let no : None ≡ Some name = sym (ap (mate_in before) alone) ∙ h in cc)
+takes_nothing before q p d alone name start h made suited = (let no : None ≡ Some name = sym (ap (mate_name before) alone) ∙ h in cc)
 
 pub enter_choices : (before : List Event) (q : Event) → IsMatched before → is_enter q.call ≡ true → q.mate ≡ None → (p : ℕ) (d : Call) → choice (before ++ q ∷ []) p d ≡ choice before p d
 enter_choices before q matched enters alone p d =
@@ -250,8 +250,8 @@ whole_offers n before q p d (Sender sender) h choices same =
 whole_offers n before q p d (Index index) h choices same =
     let after : List Event = before ++ q ∷ [] in
     let B : Option Halt → Bool → List Bool → Bool = λ o one flags. not (is_some o) && (one && is_ready_at flags index) in
-    let flags : List Bool = flags_of n after p (view_of after p) (listed_by d) in
-    let flags' : List Bool = flags_of n before p (view_of before p) (listed_by d) in
+    let flags : List Bool = flags_of (moment_at n after p) (listed_by d) in
+    let flags' : List Bool = flags_of (moment_at n before p) (listed_by d) in
     ap (λ o. B o (completes_one d) flags) same
     ∙ (ap (λ one. B (due n before p (view_of before p) d) one flags) (not_one d h) ∙ sym (ap (λ one. B (due n before p (view_of before p) d) one flags') (not_one d h)))
 
@@ -259,7 +259,7 @@ pub enter_halts : (n : ℕ) (before : List Event) (me : ℕ) (call : Call) → i
     → halted (before ++ picked_event n before me call First ∷ []) ≡ halted before
 enter_halts n before me call enters none =
     halted_more before (picked_event n before me call First)
-    ∙ (ap (λ r. or_else (halted before) (halt_in r)) (enter_event n before me call enters none).reply ∙ or_else-last (halted before))
+    ∙ (ap (λ r. or_else (halted before) (halt_of_reply r)) (enter_event n before me call enters none).reply ∙ or_else-last (halted before))
 
 pub enter_behind : (next : Next) (n : ℕ) → Lawful next → (before : List Event) (me : ℕ) (call : Call) (x : Event) (after : List Event) → IsEnterWith next n before me call x after
     → IsMatched ((before ++ picked_event n before me call First ∷ []) ++ x ∷ []) → IsGood next n ((before ++ picked_event n before me call First ∷ []) ++ x ∷ [])
@@ -321,7 +321,7 @@ enter_behind next n lawful before me call x after i matched =
 abbrev made_by : ℕ → (ℕ → Option Entered) → View → Event → List Origin
 made_by n find own event =
     if is_start (event.call, event.reply)
-    then origins_from (gather (λ m. true) find (members_in n own (comm_of event.call))) (count_on (comm_of event.call) (starts_of own)) event.call
+    then origins_from (gather (λ m. true) find (members_for_rank n own (comm_of event.call))) (count_on (comm_of event.call) (starts_of own)) event.call
     else []
 
 makes_enter : (call : Call) → makes call ≡ true → is_enter call ≡ true
@@ -401,8 +401,8 @@ enter_future next n before me call x after i =
     let P : List (Name × Name) = pairs_of before in
     let one : pairs_of ((before ++ x ∷ []) ++ q ∷ []) ≡ P ++ pair_of before x =
     pairs_of-push (before ++ x ∷ []) q
-    ∙ (ap (λ l. pairs_of (before ++ x ∷ []) ++ l) (pair_none (before ++ x ∷ []) q (ap (mate_in (before ++ x ∷ [])) e.mate)) ∙ (append-nil (pairs_of (before ++ x ∷ [])) ∙ pairs_of-push before x)) in
-    let alone : pairs_of (before ++ q ∷ []) ≡ P = pairs_of-push before q ∙ (ap (λ l. P ++ l) (pair_none before q (ap (mate_in before) e.mate)) ∙ append-nil P) in
+    ∙ (ap (λ l. pairs_of (before ++ x ∷ []) ++ l) (pair_none (before ++ x ∷ []) q (ap (mate_name (before ++ x ∷ [])) e.mate)) ∙ (append-nil (pairs_of (before ++ x ∷ [])) ∙ pairs_of-push before x)) in
+    let alone : pairs_of (before ++ q ∷ []) ≡ P = pairs_of-push before q ∙ (ap (λ l. P ++ l) (pair_none before q (ap (mate_name before) e.mate)) ∙ append-nil P) in
     let two : pairs_of ((before ++ q ∷ []) ++ x ∷ []) ≡ P ++ pair_of before x =
     pairs_of-push (before ++ q ∷ []) x
     ∙ (ap (λ l. l ++ pair_of (before ++ q ∷ []) x) alone

@@ -10,7 +10,7 @@ use Rattle.mpi_call.specs.Collectives.{agree}
 use Rattle.mpi_call.proofs.NeedsLemmas.{agree-refl}
 use Rattle.mpi_call.specs.Lists.{IsIn}
 use Rattle.run_model.specs.declared.event.Event.{Event}
-use Rattle.run_model.specs.Due.{halt_in, halted, is_mismatched, or_else}
+use Rattle.run_model.specs.Due.{halt_of_reply, halted, is_mismatched, or_else}
 use Rattle.run_model.specs.Lists.{Along}
 use Rattle.run_model.specs.Run.{IsEvent}
 use Rattle.run_model.specs.Serial.{call_after}
@@ -22,10 +22,11 @@ use Rattle.run_model.proofs.Views.{test_cases, view_of-append, view_of-other}
 use Rattle.picked_runs.specs.Numbering.{IsNumberedInOrder}
 use Rattle.picked_runs.specs.declared.turn.Pick.TheVariants.{First}
 use Rattle.picked_runs.specs.Picks.{picked_event}
+use Rattle.srr_entry.specs.Outputs.{Output}
 use Rattle.run_states.specs.Futures.{SameFuture}
-use Rattle.run_states.specs.Moves.{IsMet}
-use Rattle.run_states.specs.Outcomes.{IsPatientEvent, IsProbeKept, Output, vain_in}
-use Rattle.run_states.specs.StateLaws.{EveryStepIsMade, FuturesAreSame, IsMade, IsPatientStep}
+use Rattle.run_states.specs.Moves.{IsVisited}
+use Rattle.run_states.specs.Outcomes.{IsPatientEvent, IsProbeKept, vain_in}
+use Rattle.run_states.specs.StateLaws.{EveryStepIsMade, FuturesAreSame, IsMadeStep, IsPatientStep}
 use Rattle.quiet_calls.specs.Quiet.{IsAgreed, Races, is_calm, is_quiet, is_reckoned}
 use Rattle.quiet_calls.specs.Closure.{AreMovesMet, IsFarBelow, IsOnItsWay, IsQuietCallMet}
 use Rattle.quiet_calls.proofs.Agreed.{AreAllReckonedWith, at_most, is_longer, none_left, one_less}
@@ -92,7 +93,7 @@ pub back : (n : ℕ) (one other : List Event) → SameFuture n one other → Sam
 back n one other same = record { views = λ rank. sym (same.views rank); pairs = λ name. sym (same.pairs name); made = sym same.made }
 
 met_foreseen : (next : Next) (output : Output) (n : ℕ) (races : Races) (most : ℕ) (visited : List (List Event)) → FuturesAreSame next output n → IsSearchedQuietly next n races most visited
-    → (one : List Event) (event : Event) → AreLongerForeseen next n races most visited one → IsMet n visited (one ++ event ∷ [])
+    → (one : List Event) (event : Event) → AreLongerForeseen next n races most visited one → IsVisited n visited (one ++ event ∷ [])
     → (after : List Event) → GoesOn next n most one (event ∷ after) → IsForeseen next n races (one ++ event ∷ after)
 met_foreseen next output n races most visited futures c one event longer met after g =
     let mid : List Event = one ++ event ∷ [] in
@@ -110,13 +111,13 @@ moves_foreseen : (next : Next) (output : Output) (n : ℕ) (races : Races) (most
 moves_foreseen next output n races most visited futures steps c one there moves longer [] g =
     (let F : List Event → Type 0 = λ l. IsForeseen next n races l in subst F (sym (append-nil one)) (foreseen_here next n races most visited c one there))
 moves_foreseen next output n races most visited futures steps c one there moves longer (x ∷ front) g =
-    let made : IsMade next n one x = steps one front x g.good.run g.good.numbered in
+    let made : IsMadeStep next n one x = steps one front x g.good.run g.good.numbered in
     let whole : or_else (halted one) (halted (x ∷ front)) ≡ None = sym (halted_append one (x ∷ front)) ∙ g.free in
     let later : halted (x ∷ front) ≡ None = (none_parts (halted one) (halted (x ∷ front)) whole).1 in
-    let free : halt_in x.reply ≡ None = (none_parts (halt_in x.reply) (halted front) later).0 in
+    let free : halt_of_reply x.reply ≡ None = (none_parts (halt_of_reply x.reply) (halted front) later).0 in
     let W : Event → Type 0 = λ e. IsPatientStep most one e in
-    let M : Event → Type 0 = λ e. IsMet n visited (one ++ e ∷ []) in
-    let met : IsMet n visited (one ++ x ∷ []) =
+    let M : Event → Type 0 = λ e. IsVisited n visited (one ++ e ∷ []) in
+    let met : IsVisited n visited (one ++ x ∷ []) =
     subst M (sym made.made) (moves x.rank x.call made.pick (made.moves free) (subst W made.made (g.probes.0, g.patient.0))) in
     met_foreseen next output n races most visited futures c one x longer met front g
 
@@ -238,14 +239,14 @@ step_other next output n lawful races most futures one me call q h p x i room b 
     let G : List Event → Type 0 = λ l. IsGood next n l in
     let K : List Event → Type 0 = λ l. IsProbeKept l other in
     let P : List Event → Type 0 = λ l. IsPatientEvent most l other in
-    let x_free : halt_in x.reply ≡ None =
-    (none_parts (halt_in x.reply) (halted []) (none_parts (halted base) (halted (x ∷ [])) (sym (halted_append base (x ∷ [])) ∙ after.free)).1).0 in
+    let x_free : halt_of_reply x.reply ≡ None =
+    (none_parts (halt_of_reply x.reply) (halted []) (none_parts (halted base) (halted (x ∷ [])) (sym (halted_append base (x ∷ [])) ∙ after.free)).1).0 in
     let patient : IsPatientEvent most (base ++ last ∷ []) other =
     λ held. (let V : View → Type 0 = λ v. vain_in v < most in subst V (sym (view_of-other base last x.rank beside)) (after.patient.0 held)) in
     let goes : GoesOn next n most one ((p ++ last ∷ []) ++ other ∷ []) = record {
       good = subst G whole m.good;
       free = ap halted (sym (append_assoc one (p ++ last ∷ []) (other ∷ [])))
-          ∙ (halted_more (one ++ (p ++ last ∷ [])) other ∙ (ap (λ o. or_else o (halt_in x.reply)) g.free ∙ x_free));
+          ∙ (halted_more (one ++ (p ++ last ∷ [])) other ∙ (ap (λ o. or_else o (halt_of_reply x.reply)) g.free ∙ x_free));
       probes = Along-snoc IsProbeKept one (p ++ last ∷ []) other g.probes (subst K here (m.probe after.probes.0));
       patient = Along-snoc (IsPatientEvent most) one (p ++ last ∷ []) other g.patient (subst P here patient);
     } in
@@ -300,10 +301,10 @@ stays_calm true false c d h f = f h
 stays_calm false s c d h f = absurd (cc)
 
 pub calm_put : (races : Races) (before : List Event) (x : Event) (after : List Event) → is_calm races before ≡ true → is_reckoned races x.rank x.call ≡ true
-    → (is_some (halt_in x.reply) || is_calm races after) ≡ true → is_calm races (before ++ x ∷ after) ≡ true
-calm_put races [] x after h r f = and_from (is_reckoned races x.rank x.call) (is_some (halt_in x.reply) || is_calm races after) r f
+    → (is_some (halt_of_reply x.reply) || is_calm races after) ≡ true → is_calm races (before ++ x ∷ after) ≡ true
+calm_put races [] x after h r f = and_from (is_reckoned races x.rank x.call) (is_some (halt_of_reply x.reply) || is_calm races after) r f
 calm_put races (event ∷ before) x after h r f =
-    stays_calm (is_reckoned races event.rank event.call) (is_some (halt_in event.reply)) (is_calm races before) (is_calm races (before ++ x ∷ after)) h
+    stays_calm (is_reckoned races event.rank event.call) (is_some (halt_of_reply event.reply)) (is_calm races before) (is_calm races (before ++ x ∷ after)) h
     (λ c. calm_put races before x after c r f)
 
 -- the next event of what is foreseen is calm
@@ -313,7 +314,7 @@ calm_on next n most races one p x g foreseen calm =
     let after : GoesOn next n most (one ++ p) (x ∷ []) = goes_back next n most one p (x ∷ []) g in
     let step : IsEvent next n (one ++ p) x = (Along-back (IsEvent next n) [] (one ++ p) (x ∷ []) after.good.run.along).0 in
     ap (is_calm races) (sym (append_assoc one p (x ∷ [])))
-    ∙ calm_put races (one ++ p) x [] calm (foreseen.calls x.rank x.call step.rank step.call) (or_right (is_some (halt_in x.reply)) true refl)
+    ∙ calm_put races (one ++ p) x [] calm (foreseen.calls x.rank x.call step.rank step.call) (or_right (is_some (halt_of_reply x.reply)) true refl)
 
 -- the call agrees with the next event
 quiet_enter : (races : Races) (call : Call) → is_quiet races call ≡ true → is_enter call ≡ true → races.partial ≡ false

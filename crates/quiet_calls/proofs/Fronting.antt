@@ -16,8 +16,9 @@ use Rattle.run_model.proofs.Along.{Along-back, Along-front}
 use Rattle.run_model.proofs.RunLaws.{IsRun-front, Lawful}
 use Rattle.run_model.proofs.Views.{test_cases, view_of-other}
 use Rattle.picked_runs.specs.Numbering.{IsNumberedInOrder}
+use Rattle.srr_entry.specs.Outputs.{Output}
 use Rattle.run_states.specs.Futures.{SameFuture}
-use Rattle.run_states.specs.Outcomes.{IsProbeKept, Output}
+use Rattle.run_states.specs.Outcomes.{IsProbeKept}
 use Rattle.run_states.specs.StateLaws.{FuturesAreSame, HasLike}
 use Rattle.quiet_calls.specs.Quiet.{IsAgreed, Races, is_calm}
 use Rattle.quiet_calls.proofs.Room.{HasRoom, not_full, room_front, room_like, room_swapped}

@@ -6,7 +6,7 @@ use Rattle.mpi_call.specs.declared.call.Halt.{Halt}
 use Rattle.mpi_call.specs.declared.reply.Reply.{Reply}
 use Rattle.mpi_call.specs.declared.reply.Reply.TheVariants.{Done, Stopped}
 use Rattle.run_model.specs.declared.event.Event.{Event}
-use Rattle.run_model.specs.Due.{halt_in, halted, is_full, or_else, size_of, is_mismatched}
+use Rattle.run_model.specs.Due.{halt_of_reply, halted, is_full, or_else, size_of, is_mismatched}
 use Rattle.run_model.specs.Lists.{Along}
 use Rattle.run_model.specs.Run.{IsEvent, IsRun}
 use Rattle.run_model.specs.Serial.{call_after}
@@ -19,8 +19,9 @@ use Rattle.run_model.proofs.Views.{option_cases, test_cases, view_of-append, vie
 use Rattle.picked_runs.specs.declared.turn.Pick.TheVariants.{First}
 use Rattle.picked_runs.specs.Numbering.{AreNumberedInOrder, IsNumberedInOrder}
 use Rattle.picked_runs.specs.Picks.{picked_event}
+use Rattle.srr_entry.specs.Outputs.{Output}
 use Rattle.run_states.specs.Futures.{SameFuture}
-use Rattle.run_states.specs.Outcomes.{IsPatientEvent, IsProbeKept, IsWhole, Output, halted_outcome, outcome_of}
+use Rattle.run_states.specs.Outcomes.{IsPatientEvent, IsProbeKept, IsWholeRun, halted_outcome, outcome_of_run}
 use Rattle.run_states.specs.StateLaws.{FuturesAreSame, HaltsDecideOutcomes, HasLike}
 use Rattle.quiet_calls.specs.Quiet.{GoesOnBehind, IsAgreed, IsMadeFree, IsQuiet, QuietCallsGoAhead, QuietCallsGoFirst, Races, before_halt, is_calm}
 use Rattle.quiet_calls.proofs.Room.{HasRoom, not_full, room_in, room_put, room_like}
@@ -42,19 +43,19 @@ pub record HasFirstHalt (events : List Event) (halt : Halt) : Type 0 where
   pub after : List Event
   pub whole : events ≡ before ++ event ∷ after
   pub none : halted before ≡ None
-  pub here : halt_in event.reply ≡ Some halt
+  pub here : halt_of_reply event.reply ≡ Some halt
   pub part : before_halt events ≡ before
 
 pub all_free : (events : List Event) → halted events ≡ None → before_halt events ≡ events
 all_free [] h = refl
 all_free (event ∷ events) h =
-    let parts = none_parts (halt_in event.reply) (halted events) h in
+    let parts = none_parts (halt_of_reply event.reply) (halted events) h in
     rw parts.0 (ap (λ l. event ∷ l) (all_free events parts.1))
 
 pub first_halt : (events : List Event) (halt : Halt) → halted events ≡ Some halt → HasFirstHalt events halt
 first_halt [] halt h = absurd (cc)
 first_halt (event ∷ events) halt h =
-    elim (option_cases (halt_in event.reply)) [
+    elim (option_cases (halt_of_reply event.reply)) [
       | inl some ↦
           let same : Some some.0 ≡ Some halt = rw some.1 at h in
           record { before = []; event = event; after = events; whole = refl; none = refl; here = some.1 ∙ same; part = rw some.1 refl }
@@ -63,19 +64,19 @@ first_halt (event ∷ events) halt h =
           record { before = event ∷ f.before; event = f.event; after = f.after; whole = ap (λ l. event ∷ l) f.whole; none = rw none f.none; here = f.here; part = rw none (ap (λ l. event ∷ l) f.part) }
     ]
 
-pub stopped_by : (reply : Reply) (halt : Halt) → halt_in reply ≡ Some halt → reply ≡ Stopped halt
+pub stopped_by : (reply : Reply) (halt : Halt) → halt_of_reply reply ≡ Some halt → reply ≡ Stopped halt
 stopped_by (Stopped other) halt h = (let same : other ≡ halt = cc in ap (λ x. Stopped x) same)
 stopped_by reply halt h = absurd (cc)
 
-no_halt : (event other : Event) (halt : Halt) (more : List Event) → event ≡ other → halt_in event.reply ≡ Some halt → halted (other ∷ more) ≡ None → ⊥
+no_halt : (event other : Event) (halt : Halt) (more : List Event) → event ≡ other → halt_of_reply event.reply ≡ Some halt → halted (other ∷ more) ≡ None → ⊥
 no_halt event other halt more same here none =
-    let there : halt_in other.reply ≡ Some halt = ap (λ (e : Event). halt_in e.reply) (sym same) ∙ here in
-    let no : None ≡ Some halt = sym (none_parts (halt_in other.reply) (halted more) none).0 ∙ there in
+    let there : halt_of_reply other.reply ≡ Some halt = ap (λ (e : Event). halt_of_reply e.reply) (sym same) ∙ here in
+    let no : None ≡ Some halt = sym (none_parts (halt_of_reply other.reply) (halted more) none).0 ∙ there in
     cc
 
 -- an event before the first halt is among those before it
 among_front : (front : List Event) (x : Event) (after : List Event) (halt : Halt) (rank : ℕ) (before : List Event) (event : Event) (rest : List Event)
-    → halt_in x.reply ≡ Some halt → front ++ x ∷ after ≡ before ++ event ∷ rest → event.rank ≡ rank → halted (before ++ event ∷ []) ≡ None → has_event rank front ≡ true
+    → halt_of_reply x.reply ≡ Some halt → front ++ x ∷ after ≡ before ++ event ∷ rest → event.rank ≡ rank → halted (before ++ event ∷ []) ≡ None → has_event rank front ≡ true
 among_front [] x after halt rank [] event rest here whole own none = (let same : x ≡ event = cc in absurd (no_halt x event halt [] same here none))
 among_front [] x after halt rank (y ∷ before) event rest here whole own none =
     (let same : x ≡ y = cc in absurd (no_halt x y halt (before ++ event ∷ []) same here none))
@@ -85,9 +86,9 @@ among_front (y ∷ front) x after halt rank [] event rest here whole own none =
 among_front (y ∷ front) x after halt rank (z ∷ before) event rest here whole own none =
     let tails : front ++ x ∷ after ≡ before ++ event ∷ rest = cc in
     or_right (y.rank == rank) (has_event rank front)
-    (among_front front x after halt rank before event rest here tails own (none_parts (halt_in z.reply) (halted (before ++ event ∷ [])) none).1)
+    (among_front front x after halt rank before event rest here tails own (none_parts (halt_of_reply z.reply) (halted (before ++ event ∷ [])) none).1)
 
-made_before : (root front : List Event) (x : Event) (after : List Event) (halt : Halt) (rank : ℕ) → halt_in x.reply ≡ Some halt → IsMadeFree root (front ++ x ∷ after) rank
+made_before : (root front : List Event) (x : Event) (after : List Event) (halt : Halt) (rank : ℕ) → halt_of_reply x.reply ≡ Some halt → IsMadeFree root (front ++ x ∷ after) rank
     → has_event rank front ≡ true
 made_before root front x after halt rank here made =
     let whole : or_else (halted root) (halted (made.front ++ made.event ∷ [])) ≡ None = sym (halted_append root (made.front ++ made.event ∷ []))
@@ -123,8 +124,8 @@ patience_kept root more other most same patient =
 
 record IsCarried (next : Next) (output : Output) (n : ℕ) (root : List Event) (q : Event) (rest now tail : List Event) : Type 0 where
   last : List Event
-  whole : IsWhole next n (root ++ q ∷ last)
-  outcome : outcome_of output n (now ++ tail) ≡ outcome_of output n (root ++ q ∷ last)
+  whole : IsWholeRun next n (root ++ q ∷ last)
+  outcome : outcome_of_run output n (now ++ tail) ≡ outcome_of_run output n (root ++ q ∷ last)
   views : (rank : ℕ) → view_of (now ++ tail) rank ≡ view_of (root ++ q ∷ last) rank
   count : length last ≡ length rest + length tail
 
@@ -147,20 +148,20 @@ carried next output n futures root q rest now tail good ended first future probe
         numbered = subst N whole like.numbered;
         probes = along_join IsProbeKept [] root (q ∷ last) probes (along_join IsProbeKept root (q ∷ rest) like.rest kept (like.probes more));
       };
-      outcome = like.outcome ∙ ap (outcome_of output n) whole;
+      outcome = like.outcome ∙ ap (outcome_of_run output n) whole;
       views = views;
       count = length-append rest like.rest ∙ ap (λ c. length rest + c) (as_long like.rest tail like.order);
     }
 
 -- 4. the call was made in what goes on
 
-moved_first : (next : Next) (output : Output) (n : ℕ) → FuturesAreSame next output n → (root front tail rest : List Event) (q : Event) → IsWhole next n (root ++ (front ++ tail))
+moved_first : (next : Next) (output : Output) (n : ℕ) → FuturesAreSame next output n → (root front tail rest : List Event) (q : Event) → IsWholeRun next n (root ++ (front ++ tail))
     → IsGood next n (root ++ q ∷ rest) → (Along IsProbeKept root front → Along IsProbeKept root (q ∷ rest)) → IsMoved n root front rest q
     → GoesOnBehind next output n root (front ++ tail) q
 moved_first next output n futures root front tail rest q whole first probes moved =
     let here : root ++ (front ++ tail) ≡ (root ++ front) ++ tail = sym (append_assoc root front tail) in
-    let W : List Event → Type 0 = λ l. IsWhole next n l in
-    let is : IsWhole next n ((root ++ front) ++ tail) = subst W here whole in
+    let W : List Event → Type 0 = λ l. IsWholeRun next n l in
+    let is : IsWholeRun next n ((root ++ front) ++ tail) = subst W here whole in
     let kept : Along IsProbeKept [] (root ++ front) = Along-front IsProbeKept [] (root ++ front) tail is.probes in
     let c = carried next output n futures root q rest (root ++ front) tail (record { run = is.run; numbered = is.numbered }) is.ended first moved.future
     (Along-front IsProbeKept [] root front kept) (probes (Along-back IsProbeKept [] root front kept)) (Along-back IsProbeKept [] (root ++ front) tail is.probes) in
@@ -170,7 +171,7 @@ moved_first next output n futures root front tail rest q whole first probes move
     record {
       rest = c.last;
       whole = c.whole;
-      outcome = ap (outcome_of output n) here ∙ c.outcome;
+      outcome = ap (outcome_of_run output n) here ∙ c.outcome;
       patient = λ most patient. patience_kept root (front ++ tail) (q ∷ c.last) most (λ rank. ap (λ l. view_of l rank) here ∙ c.views rank) patient;
       longer = omega (arith, count, less, all);
       shorter = λ made. omega (arith, count, less, all);
@@ -182,7 +183,7 @@ record IsHalted (next : Next) (output : Output) (n : ℕ) (base : List Event) (x
   fin : List Event
   good : IsGood next n ((base ++ q ∷ []) ++ x ∷ fin)
   ended : (rank : ℕ) → rank < n → call_after next n ((base ++ q ∷ []) ++ x ∷ fin) rank ≡ None
-  outcome : outcome_of output n (base ++ x ∷ after) ≡ outcome_of output n ((base ++ q ∷ []) ++ x ∷ fin)
+  outcome : outcome_of_run output n (base ++ x ∷ after) ≡ outcome_of_run output n ((base ++ q ∷ []) ++ x ∷ fin)
   others : (rank : ℕ) → (rank == me) ≡ false → view_of ((base ++ q ∷ []) ++ x ∷ fin) rank ≡ view_of (base ++ x ∷ after) rank
   count : length fin ≤ length after
   probes : Along IsProbeKept (base ++ q ∷ []) (x ∷ fin)
@@ -198,8 +199,8 @@ halt_apart : (next : Next) (n : ℕ) → Lawful next → (races : Races) (base :
 halt_apart next n lawful races base me call q x halt good first step ordered stopped =
     false_from_ne_true (x.rank == me) (λ t.
     let same : x ≡ q = own_first next n lawful races base me call q x good first step ordered (eqb-true x.rank me t) in
-    let free : halt_in x.reply ≡ None = ap (λ (e : Event). halt_in e.reply) same ∙ first.free in
-    let no : None ≡ Some halt = sym free ∙ ap halt_in stopped in
+    let free : halt_of_reply x.reply ≡ None = ap (λ (e : Event). halt_of_reply e.reply) same ∙ first.free in
+    let no : None ≡ Some halt = sym free ∙ ap halt_of_reply stopped in
     cc)
 
 -- a quiet call before a halt of another rank
@@ -229,7 +230,7 @@ halted_behind next output n lawful decide races base x after me call q halt b =
     (record { good = good; first = b.first; step = steps.0; ordered = ordered.0; apart = apart; calm = b.calm; halts = b.none; full = b.full; agreed = b.agreed }) b.stopped in
     let free : halted behind ≡ None = first_halts next n races base me call q b.first ∙ b.none in
     let halts : (l : List Event) → halted l ≡ None → halted (l ++ x ∷ []) ≡ Some halt =
-    λ l none. halted_more l x ∙ (ap (λ o. or_else o (halt_in x.reply)) none ∙ ap halt_in b.stopped) in
+    λ l none. halted_more l x ∙ (ap (λ o. or_else o (halt_of_reply x.reply)) none ∙ ap halt_of_reply b.stopped) in
     let beside_q : (rank : ℕ) → (rank == me) ≡ false → (q.rank == rank) ≡ false =
     λ rank other. (let Q : ℕ → Type 0 = λ r. (r == rank) ≡ false in subst Q (sym own) (other_way rank me other)) in
     let beside : (rank : ℕ) → (rank == me) ≡ false → view_of (behind ++ x ∷ []) rank ≡ view_of (base ++ x ∷ []) rank =
@@ -290,7 +291,7 @@ own_view root front rest fin x q last me none apart own same =
 
 put_first : (next : Next) (output : Output) (n : ℕ) → Lawful next → FuturesAreSame next output n → HaltsDecideOutcomes next output n
     → (races : Races) (root front : List Event) (x : Event) (after rest : List Event) (me : ℕ) (call : Call) (q : Event) (halt : Halt)
-    → IsWhole next n (root ++ (front ++ x ∷ after)) → is_calm races (root ++ (front ++ x ∷ after)) ≡ true
+    → IsWholeRun next n (root ++ (front ++ x ∷ after)) → is_calm races (root ++ (front ++ x ∷ after)) ≡ true
     → IsAgreed n (root ++ (front ++ x ∷ after)) (view_of root me) call → halted (root ++ front) ≡ None
     → x.reply ≡ Stopped halt → HasRoom (root ++ q ∷ front) → IsFirst next n races root me call q → IsGood next n (root ++ q ∷ rest)
     → (Along IsProbeKept root front → Along IsProbeKept root (q ∷ rest)) → IsPutIn next n races root front rest me call q
@@ -299,9 +300,9 @@ put_first next output n lawful futures decide races root front x after rest me c
     let base : List Event = root ++ front in
     let last : Event = put.last in
     let here : root ++ (front ++ x ∷ after) ≡ base ++ x ∷ after = sym (append_assoc root front (x ∷ after)) in
-    let W : List Event → Type 0 = λ l. IsWhole next n l in
+    let W : List Event → Type 0 = λ l. IsWholeRun next n l in
     let C : List Event → Type 0 = λ l. is_calm races l ≡ true in
-    let is : IsWhole next n (base ++ x ∷ after) = subst W here whole in
+    let is : IsWholeRun next n (base ++ x ∷ after) = subst W here whole in
     let kept : Along IsProbeKept [] base = Along-front IsProbeKept [] base (x ∷ after) is.probes in
     let size : size_of q ≡ size_of last = sym (later_size next n races root base me call q last start put.there put.reply) in
     let R : List Event → Type 0 = λ l. HasRoom (root ++ last ∷ l) in
@@ -327,7 +328,7 @@ put_first next output n lawful futures decide races root front x after rest me c
     (Along-front IsProbeKept [] root front kept) (probes (Along-back IsProbeKept [] root front kept)) h.probes in
     let own : last.rank ≡ me = ap (λ (e : Event). e.rank) (sym put.there.event) in
     let own_q : q.rank ≡ me = ap (λ (e : Event). e.rank) (sym start.event) in
-    let halted_here : halt_in x.reply ≡ Some halt = ap halt_in stopped in
+    let halted_here : halt_of_reply x.reply ≡ Some halt = ap halt_of_reply stopped in
     let apart : (x.rank == me) ≡ false =
     halt_apart next n lawful races base me call last x halt (good_front next n base (x ∷ after) good) put.there (Along-back (IsEvent next n) [] base (x ∷ after) is.run.along).0
     (Along-back (IsNumberedInOrder n) [] base (x ∷ after) is.numbered).0 stopped in
@@ -338,7 +339,7 @@ put_first next output n lawful futures decide races root front x after rest me c
     record {
       rest = c.last;
       whole = c.whole;
-      outcome = ap (outcome_of output n) here ∙ (h.outcome ∙ c.outcome);
+      outcome = ap (outcome_of_run output n) here ∙ (h.outcome ∙ c.outcome);
       patient = λ most patient. views_patient most root (q ∷ c.last) (λ rank. elim (test_cases (rank == me)) [
         | inl t ↦
             let F : ℕ → Type 0 = λ r. IsPatientView most (view_of root r) (view_of (q ∷ c.last) r) in
@@ -366,18 +367,18 @@ put_first next output n lawful futures decide races root front x after rest me c
 
 first_with : (next : Next) (output : Output) (n : ℕ) → Lawful next → FuturesAreSame next output n → HaltsDecideOutcomes next output n
     → (races : Races) (root more : List Event) (me : ℕ) (call : Call) (q : Event) → IsFirst next n races root me call q
-    → IsWhole next n (root ++ more) → is_calm races (root ++ more) ≡ true → IsAgreed n (root ++ more) (view_of root me) call → is_full (root ++ q ∷ before_halt more) ≡ false → GoesOnBehind next output n root more q
+    → IsWholeRun next n (root ++ more) → is_calm races (root ++ more) ≡ true → IsAgreed n (root ++ more) (view_of root me) call → is_full (root ++ q ∷ before_halt more) ≡ false → GoesOnBehind next output n root more q
 first_with next output n lawful futures decide races root more me call q first whole calm agreed full =
     let none : halted root ≡ None = (free_parts n root me call (nothing_due next n races root me call q first)).halts in
     elim (option_cases (halted more)) [
       | inl some ↦
           let halt : Halt = some.0 in
           let f = first_halt more halt some.1 in
-          let W : List Event → Type 0 = λ l. IsWhole next n (root ++ l) in
+          let W : List Event → Type 0 = λ l. IsWholeRun next n (root ++ l) in
           let M : List Event → Type 0 = λ l. is_full (root ++ q ∷ l) ≡ false in
           let C : List Event → Type 0 = λ l. is_calm races (root ++ l) ≡ true in
           let G : List Event → Type 0 = λ l. GoesOnBehind next output n root l q in
-          let is : IsWhole next n (root ++ (f.before ++ f.event ∷ f.after)) = subst W f.whole whole in
+          let is : IsWholeRun next n (root ++ (f.before ++ f.event ∷ f.after)) = subst W f.whole whole in
           let A : List Event → Type 0 = λ l. IsAgreed n (root ++ l) (view_of root me) call in
           let agrees : IsAgreed n (root ++ (f.before ++ f.event ∷ f.after)) (view_of root me) call = subst A f.whole agreed in
           let calmly : is_calm races (root ++ (f.before ++ f.event ∷ f.after)) ≡ true = subst C f.whole calm in
@@ -412,7 +413,7 @@ first_with next output n lawful futures decide races root more me call q first w
             free = halted_append root more ∙ (ap (λ o. or_else o (halted more)) none ∙ free);
             room = room_in (root ++ q ∷ more) (let M : List Event → Type 0 = λ l. is_full (root ++ q ∷ l) ≡ false in subst M (all_free more free) full);
           }) in
-          let W : List Event → Type 0 = λ l. IsWhole next n (root ++ l) in
+          let W : List Event → Type 0 = λ l. IsWholeRun next n (root ++ l) in
           let G : List Event → Type 0 = λ l. GoesOnBehind next output n root l q in
           elim g.left [
             | inl moved ↦

@@ -12,7 +12,7 @@ use Rattle.run_model.proofs.Positions.{name_at-lower, name_position, new_name}
 use Rattle.run_model.proofs.Views.{option_cases}
 use Rattle.picked_runs.proofs.Grown.{Grows-event, named-new, pairs_of-push}
 use Rattle.picked_runs.proofs.Pairing.{AreMatched-alone, AreMatched-paired}
-use Rattle.run_states.specs.Futures.{mate_in}
+use Rattle.run_states.specs.Futures.{mate_name}
 use Rattle.quiet_calls.proofs.Swapping.{pair_is}
 use Rattle.quiet_calls.proofs.Fitting.{meet_suits, met, never_itself, suits_meet}
 
@@ -33,7 +33,7 @@ alone_matched before event matched starts mate none =
     let at = named-new before event starts in
     let F : List (Name × Name) → Type 0 = λ l. AreMatched M l in
     let pairs : pairs_of (before ++ event ∷ []) ≡ P =
-    pairs_of-push before event ∙ (ap (λ l. P ++ l) (pair_is before event ∙ ap (λ m. pair_with (mate_in before m) new) mate) ∙ append-nil P) in
+    pairs_of-push before event ∙ (ap (λ l. P ++ l) (pair_is before event ∙ ap (λ m. pair_with (mate_name before m) new) mate) ∙ append-nil P) in
     subst F (sym pairs) (AreMatched-alone (named before) M P new matched grows (λ other takes free.
     let c = met M other new takes in
     elim (grows.back other c.0 c.1) [
@@ -57,7 +57,7 @@ paired_matched before event at matched starts mate c =
     let grows = Grows-event before event starts in
     let new_at = named-new before event starts in
     let F : List (Name × Name) → Type 0 = λ l. AreMatched M l in
-    let one : mate_in before event.mate ≡ Some old = ap (mate_in before) mate ∙ o.there in
+    let one : mate_name before event.mate ≡ Some old = ap (mate_name before) mate ∙ o.there in
     let pairs : pairs_of (before ++ event ∷ []) ≡ P ++ (old, new) ∷ [] =
     pairs_of-push before event ∙ ap (λ l. P ++ l) (pair_is before event ∙ ap (λ m. pair_with m new) one) in
     subst F (sym pairs) (AreMatched-paired N M P old new matched grows (record {

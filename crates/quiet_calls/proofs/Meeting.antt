@@ -13,7 +13,7 @@ use Rattle.run_model.proofs.StartLemmas.{slice_get-last}
 use Rattle.run_model.proofs.Views.{option_cases, test_cases}
 use Rattle.picked_runs.proofs.Grown.{Grows-event, named-new, named-other, pairs_of-push}
 use Rattle.picked_runs.proofs.Pairing.{free_before, new_free, new_partner, partner_of-past, same_name-true}
-use Rattle.run_states.specs.Futures.{mate_in}
+use Rattle.run_states.specs.Futures.{mate_name}
 use Rattle.quiet_calls.proofs.Beside.{name_on, named_on, one_place}
 use Rattle.quiet_calls.proofs.Swapping.{pair_is}
 
@@ -27,11 +27,11 @@ pub not_same : (a b : Name) → (a ≡ b → ⊥) → same_name a b ≡ false
 not_same a b apart = false_from_ne_true (same_name a b) (λ t. apart (same_name-true a b t))
 
 -- another start is as free as it was
-pub free_on : (before : List Event) (event : Event) (name : Name) → partner_of (pairs_of before) name ≡ None → (mate_in before event.mate ≡ Some name → ⊥)
+pub free_on : (before : List Event) (event : Event) (name : Name) → partner_of (pairs_of before) name ≡ None → (mate_name before event.mate ≡ Some name → ⊥)
     → (new_name before event ≡ name → ⊥) → partner_of (pairs_of (before ++ event ∷ [])) name ≡ None
 free_on before event name free other new =
     let P : List (Name × Name) = pairs_of before in
-    let last : partner_of (pair_of before event) name ≡ None = elim (option_cases (mate_in before event.mate)) [
+    let last : partner_of (pair_of before event) name ≡ None = elim (option_cases (mate_name before event.mate)) [
       | inl some ↦
           let one : pair_of before event ≡ (some.0, new_name before event) ∷ [] = pair_is before event ∙ ap (λ m. pair_with m (new_name before event)) some.1 in
           let apart : same_name some.0 name ≡ false = not_same some.0 name (λ e. other (some.1 ∙ ap (λ (x : Name). Some x) e)) in
@@ -50,7 +50,7 @@ was_free before event name free =
 -- the event takes no start that the call suits
 abbrev pub TakesNone : List Event → Event → ℕ → Call → Type 0
 TakesNone before event me call =
-    (name : Name) (start : Call) → mate_in before event.mate ≡ Some name → named before name ≡ Some start → suits me call name.0 start ≡ true → ⊥
+    (name : Name) (start : Call) → mate_name before event.mate ≡ Some name → named before name ≡ Some start → suits me call name.0 start ≡ true → ⊥
 
 -- the event's name is not that of a start which was there
 pub new_apart : (before : List Event) (event : Event) (name : Name) (start : Call) → named before name ≡ Some start → new_name before event ≡ name → ⊥
@@ -62,7 +62,7 @@ new_apart before event name start made same =
 pub open_stays : (before : List Event) (event : Event) (me : ℕ) (call : Call) (at : ℕ) → TakesNone before event me call → IsOpenAt before me call at
     → IsOpenAt (before ++ event ∷ []) me call at
 open_stays before event me call at none o =
-    let apart : mate_in before event.mate ≡ Some o.name → ⊥ = λ h. none o.name o.start h o.made o.suited in
+    let apart : mate_name before event.mate ≡ Some o.name → ⊥ = λ h. none o.name o.start h o.made o.suited in
     let new : new_name before event ≡ o.name → ⊥ = λ e. new_apart before event o.name o.start o.made e in
     record {
       name = o.name;
@@ -78,7 +78,7 @@ pub record IsOpenNew (before : List Event) (event : Event) (me : ℕ) (call : Ca
   pub place : at ≡ length before
   pub starts : is_start (event.call, event.reply) ≡ true
   pub suited : suits me call event.rank event.call ≡ true
-  pub alone : mate_in before event.mate ≡ None
+  pub alone : mate_name before event.mate ≡ None
 
 named_from : (before : List Event) (event : Event) (name : Name) (start : Call) → named (before ++ event ∷ []) name ≡ Some start
     → (named before name ≡ Some start) ⊎ ((new_name before event ≡ name) × (is_start (event.call, event.reply) ≡ true) × (event.call ≡ start))
@@ -100,21 +100,21 @@ seam_name before event t = rw (take-append_seam before (event ∷ []), slice_get
 
 -- a start with a partner is not free
 -- a mate is an earlier start
-pub mate_apart : (before : List Event) (event : Event) (old : Name) → is_start (event.call, event.reply) ≡ true → mate_in before event.mate ≡ Some old
+pub mate_apart : (before : List Event) (event : Event) (old : Name) → is_start (event.call, event.reply) ≡ true → mate_name before event.mate ≡ Some old
     → old ≡ new_name before event → ⊥
 mate_apart before event old starts mate same =
     elim (option_cases event.mate) [
       | inl some ↦
           let at : ℕ = some.0 in
-          let there : name_at before at ≡ Some old = sym (ap (mate_in before) some.1) ∙ mate in
+          let there : name_at before at ≡ Some old = sym (ap (mate_name before) some.1) ∙ mate in
           let below : at < length before = name_at-below before at old there in
           let here : name_at (before ++ event ∷ []) at ≡ Some (new_name before event) = name_on before (event ∷ []) at old there ∙ ap (λ (x : Name). Some x) same in
           let place : at ≡ length before = one_place (before ++ event ∷ []) at (length before) (new_name before event) here (seam_name before event starts) in
           omega (arith, below, place)
-      | inr none ↦ (let no : None ≡ Some old = sym (ap (mate_in before) none) ∙ mate in absurd (cc))
+      | inr none ↦ (let no : None ≡ Some old = sym (ap (mate_name before) none) ∙ mate in absurd (cc))
     ]
 
-taken_new : (before : List Event) (event : Event) (old : Name) → mate_in before event.mate ≡ Some old → partner_of (pairs_of before) (new_name before event) ≡ None
+taken_new : (before : List Event) (event : Event) (old : Name) → mate_name before event.mate ≡ Some old → partner_of (pairs_of before) (new_name before event) ≡ None
     → (old ≡ new_name before event → ⊥) → partner_of (pairs_of (before ++ event ∷ [])) (new_name before event) ≡ None → ⊥
 taken_new before event old mate free apart h =
     let new : Name = new_name before event in
@@ -149,7 +149,7 @@ open_from before event me call at matched o =
             place = one_place (before ++ event ∷ []) at (length before) (new_name before event) here (seam_name before event t);
             starts = t;
             suited = subst R (sym rank) (subst C (sym new.2) o.suited);
-            alone = elim (option_cases (mate_in before event.mate)) [
+            alone = elim (option_cases (mate_name before event.mate)) [
               | inl some ↦ absurd (taken_new before event some.0 some.1 (new_free (named before) (named (before ++ event ∷ [])) (pairs_of before) (new_name before event) matched grows)
                   (λ e. mate_apart before event some.0 t some.1 e) free)
               | inr none ↦ none
@@ -164,7 +164,7 @@ pub record IsNewChoice (before : List Event) (event : Event) (me : ℕ) (call : 
   pub now : choice (before ++ event ∷ []) me call ≡ Some (length before)
   pub starts : is_start (event.call, event.reply) ≡ true
   pub suited : suits me call event.rank event.call ≡ true
-  pub alone : mate_in before event.mate ≡ None
+  pub alone : mate_name before event.mate ≡ None
 
 pub choice_behind : (before : List Event) (event : Event) (me : ℕ) (call : Call) → IsMatched before → TakesNone before event me call
     → (choice (before ++ event ∷ []) me call ≡ choice before me call) ⊎ IsNewChoice before event me call

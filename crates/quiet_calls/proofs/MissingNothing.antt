@@ -7,7 +7,7 @@ use Rattle.mpi_call.specs.declared.limits.TheConstants.{MOST_EVENTS}
 use Rattle.mpi_call.specs.declared.reply.Reply.TheVariants.{NotYet}
 use Rattle.mpi_call.specs.Lists.{IsIn}
 use Rattle.run_model.specs.declared.event.Event.{Event}
-use Rattle.run_model.specs.Due.{halt_in, halted, is_full, is_mismatched, or_else}
+use Rattle.run_model.specs.Due.{halt_of_reply, halted, is_full, is_mismatched, or_else}
 use Rattle.run_model.specs.Lists.{Along}
 use Rattle.run_model.specs.Run.{IsEvent, IsRun}
 use Rattle.run_model.specs.Views.{Next, View, replies_in, view_of}
@@ -16,9 +16,10 @@ use Rattle.run_model.proofs.RunLaws.{Lawful}
 use Rattle.run_model.proofs.Views.{length-view_of, option_cases}
 use Rattle.picked_runs.specs.declared.turn.Pick.TheVariants.{First}
 use Rattle.picked_runs.specs.Picks.{picked_event}
-use Rattle.run_states.specs.Moves.{IsMet}
-use Rattle.run_states.specs.Outcomes.{IsPatientEvent, IsProbeKept, IsWhole, Outcome, Output, outcome_of, vain_after, vain_in}
-use Rattle.run_states.specs.StateLaws.{EveryStepIsMade, FuturesAreSame, HaltsDecideOutcomes, HasLike, IsMade, IsOutcomeMet, IsPatientStep}
+use Rattle.srr_entry.specs.Outputs.{Output}
+use Rattle.run_states.specs.Moves.{IsVisited}
+use Rattle.run_states.specs.Outcomes.{IsPatientEvent, IsProbeKept, IsWholeRun, RunOutcome, outcome_of_run, vain_after, vain_in}
+use Rattle.run_states.specs.StateLaws.{EveryStepIsMade, FuturesAreSame, HaltsDecideOutcomes, HasLike, IsMadeStep, IsOutcomeMet, IsPatientStep}
 use Rattle.quiet_calls.specs.Quiet.{GoesOnBehind, IsAgreed, Races, before_halt, is_calm}
 use Rattle.quiet_calls.specs.Closure.{AreMovesMet, AreReckonedWith, IsFarBelow, IsOnItsWay, IsQuietCallMet, QuietCallsMissNothing, QuietCallsMissNothingPatient, SteadyCallsMissNothing, SteadyCallsMissNothingPatient, any_race}
 use Rattle.quiet_calls.proofs.Room.{not_full}
@@ -35,7 +36,7 @@ use Rattle.quiet_calls.proofs.Foreseen.{IsForeseenFrom, IsSearchedQuietly, all_a
 -- what whole runs that go on from a history come to is met
 abbrev IsAnswered : Next → Output → ℕ → ℕ → List (List Event) → List Event → Type 0
 IsAnswered next output n most opened one =
-    (more : List Event) → IsWhole next n (one ++ more) → Along (IsPatientEvent most) one more → IsOutcomeMet next output n opened (outcome_of output n (one ++ more))
+    (more : List Event) → IsWholeRun next n (one ++ more) → Along (IsPatientEvent most) one more → IsOutcomeMet next output n opened (outcome_of_run output n (one ++ more))
 
 abbrev LongerAreAnswered : Next → Output → ℕ → ℕ → List (List Event) → List (List Event) → List Event → Type 0
 LongerAreAnswered next output n most opened visited one = (two : List Event) → IsIn two visited → length one < length two → IsAnswered next output n most opened two
@@ -44,30 +45,30 @@ LongerAreAnswered next output n most opened visited one = (two : List Event) →
 
 -- a whole run has its like, which goes on from the history that is met
 met_answered : (next : Next) (output : Output) (n : ℕ) (races : Races) (most : ℕ) (visited : List (List Event)) → FuturesAreSame next output n
-    → (c : IsSearchedQuietly next n races most visited) → (mid : List Event) (met : IsMet n visited mid) → IsAnswered next output n most c.opened met.0
+    → (c : IsSearchedQuietly next n races most visited) → (mid : List Event) (met : IsVisited n visited mid) → IsAnswered next output n most c.opened met.0
     → IsAnswered next output n most c.opened mid
 met_answered next output n races most visited futures c mid met answered after whole patient =
     let two : List Event = met.0 in
     let way : IsOnItsWay next n two = c.runs two met.1 in
     let like : HasLike next output n mid two after = futures mid two after whole.run whole.numbered way.run way.numbered (back n two mid met.2) in
-    let there : IsWhole next n (two ++ like.rest) = record {
+    let there : IsWholeRun next n (two ++ like.rest) = record {
       run = like.run;
       ended = λ rank below. ap (λ (v : View). next n rank (replies_in v)) (sym (like.future.views rank)) ∙ whole.ended rank below;
       numbered = like.numbered;
       probes = along_join IsProbeKept [] two like.rest way.probes (like.probes (Along-back IsProbeKept [] mid after whole.probes));
     } in
-    let O : Outcome → Type 0 = λ o. IsOutcomeMet next output n c.opened o in
+    let O : RunOutcome → Type 0 = λ o. IsOutcomeMet next output n c.opened o in
     subst O (sym like.outcome)
     (answered like.rest there (patience_across most mid two after like.rest (λ rank. sym (met.2.views rank)) like.future.views patient))
 
 step_answered : (next : Next) (output : Output) (n : ℕ) (races : Races) (most : ℕ) (visited : List (List Event)) → FuturesAreSame next output n
     → (c : IsSearchedQuietly next n races most visited) → (one : List Event) (event : Event) → LongerAreAnswered next output n most c.opened visited one
-    → IsMet n visited (one ++ event ∷ []) → (after : List Event) → IsWhole next n (one ++ event ∷ after) → Along (IsPatientEvent most) one (event ∷ after)
-    → IsOutcomeMet next output n c.opened (outcome_of output n (one ++ event ∷ after))
+    → IsVisited n visited (one ++ event ∷ []) → (after : List Event) → IsWholeRun next n (one ++ event ∷ after) → Along (IsPatientEvent most) one (event ∷ after)
+    → IsOutcomeMet next output n c.opened (outcome_of_run output n (one ++ event ∷ after))
 step_answered next output n races most visited futures c one event longer met after whole patient =
     let same : (one ++ event ∷ []) ++ after ≡ one ++ event ∷ after = append_assoc one (event ∷ []) after in
-    let W : List Event → Type 0 = λ l. IsWhole next n l in
-    let O : List Event → Type 0 = λ l. IsOutcomeMet next output n c.opened (outcome_of output n l) in
+    let W : List Event → Type 0 = λ l. IsWholeRun next n l in
+    let O : List Event → Type 0 = λ l. IsOutcomeMet next output n c.opened (outcome_of_run output n l) in
     subst O same
     (met_answered next output n races most visited futures c (one ++ event ∷ []) met (longer met.0 met.1 (is_longer n one met.0 event met.2)) after (subst W (sym same) whole) patient.1)
 
@@ -75,12 +76,12 @@ moves_answered : (next : Next) (output : Output) (n : ℕ) (races : Races) (most
     → HaltsDecideOutcomes next output n → (c : IsSearchedQuietly next n races most visited) → (one : List Event) → IsIn one visited → IsIn one c.opened
     → AreMovesMet next n (IsPatientStep most) visited one → LongerAreAnswered next output n most c.opened visited one → IsAnswered next output n most c.opened one
 moves_answered next output n races most visited futures steps decide c one there wide moves longer [] whole patient =
-    let W : List Event → Type 0 = λ l. IsWhole next n l in
-    let here : IsWhole next n one = subst W (append-nil one) whole in
-    (one, wide, inl (record { ended = here.ended; outcome_is = ap (outcome_of output n) (append-nil one) }))
+    let W : List Event → Type 0 = λ l. IsWholeRun next n l in
+    let here : IsWholeRun next n one = subst W (append-nil one) whole in
+    (one, wide, inl (record { ended = here.ended; outcome_is = ap (outcome_of_run output n) (append-nil one) }))
 moves_answered next output n races most visited futures steps decide c one there wide moves longer (x ∷ after) whole patient =
-    let made : IsMade next n one x = steps one after x whole.run whole.numbered in
-    elim (option_cases (halt_in x.reply)) [
+    let made : IsMadeStep next n one x = steps one after x whole.run whole.numbered in
+    elim (option_cases (halt_of_reply x.reply)) [
       | inl some ↦
           let stopped = stopped_by x.reply some.0 some.1 in (
             one,
@@ -97,8 +98,8 @@ moves_answered next output n races most visited futures steps decide c one there
       | inr free ↦
           let kept : Along IsProbeKept one (x ∷ after) = Along-back IsProbeKept [] one (x ∷ after) whole.probes in
           let W : Event → Type 0 = λ e. IsPatientStep most one e in
-          let M : Event → Type 0 = λ e. IsMet n visited (one ++ e ∷ []) in
-          let met : IsMet n visited (one ++ x ∷ []) =
+          let M : Event → Type 0 = λ e. IsVisited n visited (one ++ e ∷ []) in
+          let met : IsVisited n visited (one ++ x ∷ []) =
           subst M (sym made.made) (moves x.rank x.call made.pick (made.moves free) (subst W made.made (kept.0, patient.0))) in
           step_answered next output n races most visited futures c one x longer met after whole patient
     ]
@@ -106,7 +107,7 @@ moves_answered next output n races most visited futures steps decide c one there
 -- 2. where what a quiet call makes is
 
 -- up to its first halt a whole run goes on without one
-goes_to_halt : (next : Next) (n most : ℕ) (one more : List Event) → halted one ≡ None → IsWhole next n (one ++ more) → Along (IsPatientEvent most) one more
+goes_to_halt : (next : Next) (n most : ℕ) (one more : List Event) → halted one ≡ None → IsWholeRun next n (one ++ more) → Along (IsPatientEvent most) one more
     → GoesOn next n most one (before_halt more)
 goes_to_halt next n most one more none whole patient =
     let kept : Along IsProbeKept one more = Along-back IsProbeKept [] one more whole.probes in
@@ -136,7 +137,7 @@ up_to_halt one more halt f =
     ap (λ l. one ++ l) f.whole ∙ (ap (λ l. one ++ (l ++ f.event ∷ f.after)) (sym f.part) ∙ sym (append_assoc one (before_halt more) (f.event ∷ f.after)))
 
 -- so it is calm, with the call that is answered by the halt
-whole_calm : (next : Next) (n : ℕ) (races : Races) (most : ℕ) (one more : List Event) → IsForeseenFrom next n races most one → is_calm races one ≡ true → IsWhole next n (one ++ more)
+whole_calm : (next : Next) (n : ℕ) (races : Races) (most : ℕ) (one more : List Event) → IsForeseenFrom next n races most one → is_calm races one ≡ true → IsWholeRun next n (one ++ more)
     → GoesOn next n most one (before_halt more) → is_calm races (one ++ more) ≡ true
 whole_calm next n races most one more foreseen past whole goes =
     let calm : is_calm races (one ++ before_halt more) ≡ true = all_calm next n races most one foreseen past (before_halt more) goes in
@@ -150,12 +151,12 @@ whole_calm next n races most one more foreseen past whole goes =
           let step : IsEvent next n front f.event = (Along-back (IsEvent next n) [] front (f.event ∷ f.after) run.along).0 in
           ap (is_calm races) same
           ∙ calm_put races front f.event f.after calm ((foreseen (before_halt more) goes).calls f.event.rank f.event.call step.rank step.call)
-          (or_left (is_some (halt_in f.event.reply)) (is_calm races f.after) (ap is_some f.here))
+          (or_left (is_some (halt_of_reply f.event.reply)) (is_calm races f.after) (ap is_some f.here))
       | inr free ↦ ap (λ l. is_calm races (one ++ l)) (sym (all_free more free)) ∙ calm
     ]
 
 -- nor does what comes behind the halt disagree
-whole_agreed : (next : Next) (n : ℕ) (one more : List Event) (own : View) (call : Call) → IsWhole next n (one ++ more) → IsAgreed n (one ++ before_halt more) own call
+whole_agreed : (next : Next) (n : ℕ) (one more : List Event) (own : View) (call : Call) → IsWholeRun next n (one ++ more) → IsAgreed n (one ++ before_halt more) own call
     → halted (one ++ before_halt more) ≡ None → IsAgreed n (one ++ more) own call
 whole_agreed next n one more own call whole agreed free enters =
     elim (option_cases (halted more)) [
@@ -166,7 +167,7 @@ whole_agreed next n one more own call whole agreed free enters =
           let R : List Event → Type 0 = λ l. IsRun next n l in
           let run : IsRun next n (front ++ f.event ∷ f.after) = subst R same whole.run in
           let steps = Along-back (IsEvent next n) [] front (f.event ∷ f.after) run.along in
-          let halts : halted (front ++ f.event ∷ []) ≡ Some some.0 = halted_more front f.event ∙ (ap (λ o. or_else o (halt_in f.event.reply)) free ∙ f.here) in
+          let halts : halted (front ++ f.event ∷ []) ≡ Some some.0 = halted_more front f.event ∙ (ap (λ o. or_else o (halt_of_reply f.event.reply)) free ∙ f.here) in
           ap (λ l. is_mismatched n l own call) (same ∙ sym (append_assoc front (f.event ∷ []) f.after))
           ∙ agreed_tail next n some.0 own call (front ++ f.event ∷ []) f.after steps.1 halts
           (agreed_stopped n front f.event some.0 own call (stopped_by f.event.reply some.0 f.here) (agreed enters))
@@ -189,7 +190,7 @@ quiet_answered next output n lawful races most visited futures steps decide c on
     let b : GoesOnBehind next output n one more q = goes_first next output n lawful futures decide races one more quiet.rank quiet.call quiet.quiet whole
     calm (whole_agreed next n one more (view_of one quiet.rank) quiet.call whole
     (all_agreed next output n lawful races most visited futures steps c one there quiet (before_halt more) goes) goes.free) full in
-    let O : Outcome → Type 0 = λ o. IsOutcomeMet next output n c.opened o in
+    let O : RunOutcome → Type 0 = λ o. IsOutcomeMet next output n c.opened o in
     subst O (sym b.outcome) (step_answered next output n races most visited futures c one q longer quiet.met b.rest b.whole (b.patient most patient))
 
 -- 3. of all of them
@@ -208,7 +209,7 @@ by_length next output n lawful races most visited futures steps decide c (suc k)
     ]
 
 all_answered : (next : Next) (output : Output) (n : ℕ) → Lawful next → (races : Races) (most : ℕ) (visited : List (List Event)) → FuturesAreSame next output n → EveryStepIsMade next n
-    → HaltsDecideOutcomes next output n → (c : IsSearchedQuietly next n races most visited) → (root : List Event) → IsMet n visited root → IsAnswered next output n most c.opened root
+    → HaltsDecideOutcomes next output n → (c : IsSearchedQuietly next n races most visited) → (root : List Event) → IsVisited n visited root → IsAnswered next output n most c.opened root
 all_answered next output n lawful races most visited futures steps decide c root met =
     met_answered next output n races most visited futures c root met
     (by_length next output n lawful races most visited futures steps decide c MOST_EVENTS met.0 met.1 (at_most MOST_EVENTS (length met.0)))
@@ -260,7 +261,7 @@ nothing_missed next output n lawful futures steps decide races root more opened 
 
 any_calm : (events : List Event) → is_calm any_race events ≡ true
 any_calm [] = refl
-any_calm (event ∷ events) = or_right (is_some (halt_in event.reply)) (is_calm any_race events) (any_calm events)
+any_calm (event ∷ events) = or_right (is_some (halt_of_reply event.reply)) (is_calm any_race events) (any_calm events)
 
 any_reckoned : (next : Next) (n : ℕ) (opened visited : List (List Event)) → AreReckonedWith next n any_race opened visited
 any_reckoned next n opened visited =

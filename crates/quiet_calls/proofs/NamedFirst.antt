@@ -11,8 +11,8 @@ use Rattle.mpi_call.specs.Calls.{is_starting}
 use Rattle.run_model.specs.declared.event.Event.{Event}
 use Rattle.run_model.specs.Allowed.{IsStuck, can_go, has_open, is_prompt}
 use Rattle.run_model.specs.Choice.{choice, suits}
-use Rattle.run_model.specs.Chosen.{message_in, message_of}
-use Rattle.run_model.specs.Due.{due, halt_in, halted, is_full, or_else}
+use Rattle.run_model.specs.Chosen.{message_of_pair, message_of}
+use Rattle.run_model.specs.Due.{due, halt_of_reply, halted, is_full, or_else}
 use Rattle.run_model.specs.Pairs.{IsMatched, Name, named, pairs_of, partner_of}
 use Rattle.run_model.specs.Serial.{call_after}
 use Rattle.run_model.specs.Views.{Next, View, is_start, view_of}
@@ -25,7 +25,7 @@ use Rattle.picked_runs.specs.declared.turn.Pick.{Pick}
 use Rattle.picked_runs.specs.declared.turn.Pick.TheVariants.{First}
 use Rattle.picked_runs.specs.Picked.{IsPickedEvent}
 use Rattle.picked_runs.specs.Picks.{looking, picked_answer, picked_event, picked_mate, picked_reply}
-use Rattle.run_states.specs.Futures.{mate_in}
+use Rattle.run_states.specs.Futures.{mate_name}
 use Rattle.quiet_calls.proofs.Named.{named_makes, named_off, named_starts, other_of, other_suits, suits_apart, suits_looking, suits_other, takes_any}
 use Rattle.quiet_calls.proofs.Beside.{named_on}
 use Rattle.quiet_calls.proofs.Unseen.{LeavesAlone}
@@ -85,12 +85,12 @@ has_start before event seen mate widen name h =
     elim (option_cases (choice before event.rank seen)) [
       | inl some ↦
           let o = (choice_some before event.rank seen some.0 some.1).chosen in
-          let there : mate_in before event.mate ≡ Some o.name = ap (mate_in before) (mate ∙ some.1) ∙ o.there in
+          let there : mate_name before event.mate ≡ Some o.name = ap (mate_name before) (mate ∙ some.1) ∙ o.there in
           let both : Some o.name ≡ Some name = sym there ∙ h in
           let same : o.name ≡ name = cc in
           let F : Name → Type 0 = λ x. (start : Call) × (named before x ≡ Some start) × (suits event.rank event.call x.0 start ≡ true) in
           subst F same (o.start, o.made, widen o.name.0 o.start o.suited)
-      | inr none ↦ (let no : None ≡ Some name = sym (ap (mate_in before) (mate ∙ none)) ∙ h in absurd (cc))
+      | inr none ↦ (let no : None ≡ Some name = sym (ap (mate_name before) (mate ∙ none)) ∙ h in absurd (cc))
     ]
 
 pub named_start : (n : ℕ) (before : List Event) (me : ℕ) (call : Call) (w : ℕ) → other_of call ≡ Some w → due n before me (view_of before me) call ≡ None
@@ -99,7 +99,7 @@ named_start n before me call w names none =
     has_start before (picked_event n before me call First) call (named_event n before me call w names none).mate (λ owner start h. h)
 
 idle_start : (before : List Event) (event : Event) → event.mate ≡ None → HasStart before event
-idle_start before event mate name h = (let no : None ≡ Some name = sym (ap (mate_in before) mate) ∙ h in absurd (cc))
+idle_start before event mate name h = (let no : None ≡ Some name = sym (ap (mate_name before) mate) ∙ h in absurd (cc))
 
 pub picked_start : (n : ℕ) (before : List Event) (x : Event) (pick : Pick) → IsPickedEvent n before x pick → HasStart before x
 picked_start n before x pick picked =
@@ -150,7 +150,7 @@ pub named_halts : (n : ℕ) (before : List Event) (me : ℕ) (call : Call) (w : 
     → halted (before ++ picked_event n before me call First ∷ []) ≡ halted before
 named_halts n before me call w names none =
     halted_more before (picked_event n before me call First)
-    ∙ (ap (λ r. or_else (halted before) (halt_in r)) (named_event n before me call w names none).reply ∙ or_else-last (halted before))
+    ∙ (ap (λ r. or_else (halted before) (halt_of_reply r)) (named_event n before me call w names none).reply ∙ or_else-last (halted before))
 
 -- 4. ranks that it leaves alone
 
@@ -169,7 +169,7 @@ given_on before event name matched =
       | inl some ↦
           let there = there_of before name some.0 matched some.1 in
           ap (message_of (before ++ event ∷ [])) some.1
-          ∙ (ap (message_in some.0) (named_on before (event ∷ []) some.0 there.0 there.1 ∙ sym there.1) ∙ sym (ap (message_of before) some.1))
+          ∙ (ap (message_of_pair some.0) (named_on before (event ∷ []) some.0 there.0 there.1 ∙ sym there.1) ∙ sym (ap (message_of before) some.1))
       | inr none ↦ ap (message_of (before ++ event ∷ [])) none ∙ sym (ap (message_of before) none)
     ]
 

@@ -29,7 +29,7 @@ use Rattle.picked_runs.specs.Picks.{picked_event, picked_mate, picked_reply}
 use Rattle.picked_runs.proofs.Grown.{Grows-event, named-new, pairs_of-push}
 use Rattle.picked_runs.proofs.Making.{event_picked}
 use Rattle.picked_runs.proofs.Pairing.{new_free}
-use Rattle.run_states.specs.Futures.{SameFuture, mate_in}
+use Rattle.run_states.specs.Futures.{SameFuture, mate_name}
 use Rattle.run_states.specs.Outcomes.{IsProbeKept}
 use Rattle.quiet_calls.specs.Quiet.{is_racy}
 use Rattle.quiet_calls.proofs.Named.{named_off, other_of, other_suits, suits_other}
@@ -46,7 +46,7 @@ use Rattle.quiet_calls.proofs.Calm.{calm_event, calmly, due_off}
 
 -- 1. a start that is open behind its own event
 
-pub open_new : (before : List Event) (event : Event) (me : ℕ) (call : Call) → IsMatched before → is_start (event.call, event.reply) ≡ true → mate_in before event.mate ≡ None
+pub open_new : (before : List Event) (event : Event) (me : ℕ) (call : Call) → IsMatched before → is_start (event.call, event.reply) ≡ true → mate_name before event.mate ≡ None
     → suits me call event.rank event.call ≡ true → IsOpenAt (before ++ event ∷ []) me call (length before)
 open_new before event me call matched starts alone suited =
     let new : Name = new_name before event in
@@ -64,7 +64,7 @@ open_new before event me call matched starts alone suited =
     }
 
 -- so it is the choice, where there was none
-pub meets_new : (before : List Event) (event : Event) (me : ℕ) (call : Call) → IsMatched before → is_start (event.call, event.reply) ≡ true → mate_in before event.mate ≡ None
+pub meets_new : (before : List Event) (event : Event) (me : ℕ) (call : Call) → IsMatched before → is_start (event.call, event.reply) ≡ true → mate_name before event.mate ≡ None
     → suits me call event.rank event.call ≡ true → TakesNone before event me call → choice before me call ≡ None → choice (before ++ event ∷ []) me call ≡ Some (length before)
 meets_new before event me call matched starts alone suited none was =
     elim (choice_behind before event me call matched none) [
@@ -137,12 +137,12 @@ calm_run next n lawful before q x good first step ordered calm apart off halts f
 
 -- 4. mates
 
-mate_none : (before : List Event) (me : ℕ) (call : Call) → mate_in before (choice before me call) ≡ None → choice before me call ≡ None
+mate_none : (before : List Event) (me : ℕ) (call : Call) → mate_name before (choice before me call) ≡ None → choice before me call ≡ None
 mate_none before me call h =
     elim (option_cases (choice before me call)) [
       | inl some ↦
           let o = (choice_some before me call some.0 some.1).chosen in
-          let no : None ≡ Some o.name = sym h ∙ (ap (mate_in before) some.1 ∙ o.there) in
+          let no : None ≡ Some o.name = sym h ∙ (ap (mate_name before) some.1 ∙ o.there) in
           absurd (cc)
       | inr none ↦ none
     ]
@@ -247,8 +247,8 @@ beside_behind next n lawful before me call w x i same =
     let qs : HasStart before q = named_start n before me call w i.is.names i.is.none in
     let none : TakesNone before x me call = takes_beside before me call w x i.is.names i.is.plain xs (not_equal x.rank me i.apart) in
     let qmate : HasMate before q = (IsRun-event next n before [] q first.run).mate in
-    let qm : mate_in (before ++ x ∷ []) q.mate ≡ mate_in before q.mate = mate_stays before (x ∷ []) q qmate in
-    let xm : mate_in (before ++ q ∷ []) x.mate ≡ mate_in before x.mate = mate_stays before (q ∷ []) x i.step.mate in
+    let qm : mate_name (before ++ x ∷ []) q.mate ≡ mate_name before q.mate = mate_stays before (x ∷ []) q qmate in
+    let xm : mate_name (before ++ q ∷ []) x.mate ≡ mate_name before x.mate = mate_stays before (q ∷ []) x i.step.mate in
     let future : SameFuture n ((before ++ x ∷ []) ++ q ∷ []) ((before ++ q ∷ []) ++ x ∷ []) =
     future_beside n before x q w i.is.names i.apart apart xs qs none qm xm in
     let behind : IsMatched ((before ++ x ∷ []) ++ q ∷ []) = matched_chosen (before ++ x ∷ []) q i.step.matched e.starts (e.mate ∙ sym same) in
@@ -260,9 +260,9 @@ beside_behind next n lawful before me call w x i same =
           let rank : x.rank ≡ w = other_suits x.rank x.call me call w i.is.names new.suited in
           let mine = first_picked n before x (pick_of n before x) (i.calm rank) picked in
           let was : picked_mate before x.rank x.call x.reply First ≡ choice before x.rank x.call = rw s refl in
-          let alone : mate_in before x.mate ≡ None = ap (mate_in before) (own_mate n before x First mine ∙ (was ∙ new.was)) in
+          let alone : mate_name before x.mate ≡ None = ap (mate_name before) (own_mate n before x First mine ∙ (was ∙ new.was)) in
           let starting : is_starting x.call ≡ true = (and_parts (is_starting x.call) (is_done x.reply) s).0 in
-          let free : choice before me call ≡ None = mate_none before me call (ap (mate_in before) (sym e.mate) ∙ new.alone) in
+          let free : choice before me call ≡ None = mate_none before me call (ap (mate_name before) (sym e.mate) ∙ new.alone) in
           let seen : choice (before ++ x ∷ []) me call ≡ Some (length before) =
           meets_new before x me call kept.matched s alone (suits_forth me call w x.rank x.call i.is.names new.suited starting) none free in
           let no : None ≡ Some (length before) = sym free ∙ (sym same ∙ seen) in
@@ -296,10 +296,10 @@ beside_case next n lawful before me call w x i halts room same =
 
 -- where an event took nothing, no probe before it found anything
 no_probe : (before after : List Event) (event other : Event) → view_of after other.rank ≡ view_of before event.rank → other.call ≡ event.call → other.reply ≡ event.reply
-    → mate_in before event.mate ≡ None → IsProbeKept before event → IsProbeKept after other
+    → mate_name before event.mate ≡ None → IsProbeKept before event → IsProbeKept after other
 no_probe before after event other view called replied none kept earlier comm source tag wait room sender start sent count seen posted done =
     let pair : Name = (sender, start) in
-    let found : mate_in before event.mate ≡ Some pair = kept earlier comm source tag wait room sender start sent count (sym view ∙ seen) (sym called ∙ posted) (sym replied ∙ done) in
+    let found : mate_name before event.mate ≡ Some pair = kept earlier comm source tag wait room sender start sent count (sym view ∙ seen) (sym called ∙ posted) (sym replied ∙ done) in
     let no : None ≡ Some pair = sym none ∙ found in
     absurd (cc)
 
@@ -321,14 +321,14 @@ crossed_behind next n lawful before me call w x i new =
     let apart : (me == x.rank) ≡ false = other_way x.rank me i.apart in
     let calm : is_racy x.call ≡ false = i.calm (suits_other me call w x.rank x.call i.is.names new.suited) in
     let picked = first_picked n before x (pick_of n before x) calm (event_picked next n before x kept.matched kept.below i.step i.ordered) in
-    let q_none : mate_in before q.mate ≡ None = ap (mate_in before) (e.mate ∙ new.was) in
+    let q_none : mate_name before q.mate ≡ None = ap (mate_name before) (e.mate ∙ new.was) in
     let future : SameFuture n ((before ++ x ∷ []) ++ with_mate q at ∷ []) ((before ++ q ∷ []) ++ with_mate x at ∷ []) =
     future_crossed n before x q w i.is.names i.apart apart new.starts e.starts new.alone q_none in
     let behind : IsMatched ((before ++ x ∷ []) ++ with_mate q at ∷ []) = matched_chosen (before ++ x ∷ []) (with_mate q at) i.step.matched e.starts (sym new.now) in
     let matched : IsMatched ((before ++ q ∷ []) ++ with_mate x at ∷ []) =
     matched_same n ((before ++ x ∷ []) ++ with_mate q at ∷ []) ((before ++ q ∷ []) ++ with_mate x at ∷ []) future behind in
     let was : picked_mate before x.rank x.call x.reply First ≡ choice before x.rank x.call = rw new.starts refl in
-    let free : choice before x.rank x.call ≡ None = mate_none before x.rank x.call (ap (mate_in before) (sym (own_mate n before x First picked ∙ was)) ∙ new.alone) in
+    let free : choice before x.rank x.call ≡ None = mate_none before x.rank x.call (ap (mate_name before) (sym (own_mate n before x First picked ∙ was)) ∙ new.alone) in
     let seen : choice (before ++ q ∷ []) x.rank x.call ≡ at =
     meets_new before q x.rank x.call kept.matched e.starts q_none (suits_back me call w x.rank x.call i.is.names new.suited)
     (takes_apart n before me call w i.is.names i.is.none i.is.plain x.rank x.call (not_equal me x.rank apart)) free in

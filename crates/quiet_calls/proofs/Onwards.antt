@@ -12,8 +12,9 @@ use Rattle.run_model.specs.Views.{Next, View, view_of}
 use Rattle.run_model.proofs.Along.{Along-back, Along-front}
 use Rattle.run_model.proofs.Prefixes.{append-cancel}
 use Rattle.run_model.proofs.Views.{option_cases, view_of-append}
+use Rattle.srr_entry.specs.Outputs.{Output}
 use Rattle.run_states.specs.Futures.{SameFuture}
-use Rattle.run_states.specs.Outcomes.{IsPatientEvent, IsProbeKept, Outcome, Output, ending_told, outcome_of}
+use Rattle.run_states.specs.Outcomes.{IsPatientEvent, IsProbeKept, RunOutcome, reported_ending, outcome_of_run}
 use Rattle.run_states.specs.StateLaws.{FuturesAreSame, HasLike, IsPatientStep}
 use Rattle.quiet_calls.proofs.Runs.{IsGood}
 use Rattle.quiet_calls.proofs.Commuting.{halted_front}
@@ -37,17 +38,17 @@ abbrev is_finished : Ending → Bool
 is_finished Finished = true
 is_finished ending = false
 
-halted_told : (halt : Halt) → is_finished (ending_told (Halted halt)) ≡ false
+halted_told : (halt : Halt) → is_finished (reported_ending (Halted halt)) ≡ false
 halted_told (Mismatched rank) = refl
 halted_told halt = refl
 
-free_told : (output : Output) (n : ℕ) (one other : List Event) → outcome_of output n one ≡ outcome_of output n other → halted one ≡ None → halted other ≡ None
+free_told : (output : Output) (n : ℕ) (one other : List Event) → outcome_of_run output n one ≡ outcome_of_run output n other → halted one ≡ None → halted other ≡ None
 free_told output n one other same free =
     elim (option_cases (halted other)) [
       | inl some ↦
-          let ends : is_finished (ending_told (ending_by (halted one))) ≡ is_finished (ending_told (ending_by (halted other))) =
-          ap (λ (o : Outcome). is_finished o.ending) same in
-          let no : true ≡ false = ap (λ o. is_finished (ending_told (ending_by o))) (sym free) ∙ (ends ∙ (ap (λ o. is_finished (ending_told (ending_by o))) some.1 ∙ halted_told some.0)) in
+          let ends : is_finished (reported_ending (ending_by (halted one))) ≡ is_finished (reported_ending (ending_by (halted other))) =
+          ap (λ (o : RunOutcome). is_finished o.ending) same in
+          let no : true ≡ false = ap (λ o. is_finished (reported_ending (ending_by o))) (sym free) ∙ (ends ∙ (ap (λ o. is_finished (reported_ending (ending_by o))) some.1 ∙ halted_told some.0)) in
           absurd (cc)
       | inr none ↦ none
     ]

@@ -15,13 +15,13 @@ use Rattle.run_model.specs.declared.ending.Ending.TheVariants.{Halted}
 use Rattle.run_model.specs.declared.event.Event.{Event}
 use Rattle.run_model.specs.Due.{is_mismatched}
 use Rattle.run_model.specs.Pairs.{pairs_of, partner_of}
-use Rattle.run_model.specs.Serial.{at_first, rounds}
+use Rattle.run_model.specs.Serial.{first_stage, rounds}
 use Rattle.run_model.specs.Views.{Next}
 use Rattle.picked_runs.specs.declared.turn.Pick.TheVariants.{First}
 use Rattle.picked_runs.specs.declared.turn.Turn.{Turn}
 use Rattle.picked_runs.specs.Picks.{picked_reply}
 use Rattle.picked_runs.specs.Turns.{take_turns}
-use Rattle.run_states.specs.Outcomes.{outcome_of}
+use Rattle.run_states.specs.Outcomes.{outcome_of_run}
 use Rattle.quiet_calls.specs.Closure.{any_race}
 use Rattle.quiet_calls.specs.Quiet.{Races, is_calm, is_quiet}
 
@@ -33,7 +33,7 @@ abbrev script : Script → Next
 script calls n rank replies = slice_get (calls rank) (length replies)
 
 abbrev recorded : Script → ℕ → List Turn → ℕ → List Event
-recorded calls n turns count = (rounds (script calls) n count (take_turns (script calls) n at_first turns)).events
+recorded calls n turns count = (rounds (script calls) n count (take_turns (script calls) n first_stage turns)).events
 
 abbrev plain : ℕ → Turn
 plain rank = record { rank = rank; pick = First }
@@ -101,7 +101,7 @@ crooked zero = broadcasts ∷ Take (0 ∷ []) All ∷ End ∷ []
 crooked (suc zero) = broadcasts ∷ Take (0 ∷ []) All ∷ Abort (pos 1) ∷ []
 crooked rank = waits ∷ Take (0 ∷ []) All ∷ End ∷ []
 
-aborted : (outcome_of silent 3 (recorded crooked 3 (plain 0 ∷ plain 1 ∷ plain 1 ∷ plain 1 ∷ []) 3)).ending ≡ Halted (Aborted 1 (pos 1))
+aborted : (outcome_of_run silent 3 (recorded crooked 3 (plain 0 ∷ plain 1 ∷ plain 1 ∷ plain 1 ∷ []) 3)).ending ≡ Halted (Aborted 1 (pos 1))
 aborted = refl
 
 enters : picked_reply 3 [] 2 waits First ≡ Done

@@ -9,11 +9,11 @@ use Rattle.mpi_call.specs.declared.reply.Reply.TheVariants.{NotYet}
 use Rattle.run_model.specs.declared.event.Event.{Event}
 use Rattle.run_model.specs.Allowed.{IsStuck, can_go, flags_of, is_prompt, true_places}
 use Rattle.run_model.specs.Chosen.{items_at}
-use Rattle.run_model.specs.Due.{due, halt_in}
-use Rattle.run_model.specs.Pairs.{AreMatched, IsMatched, Name, Takes, named, pair_of, pairs_of, partner_of, post_accepts}
+use Rattle.run_model.specs.Due.{due, halt_of_reply}
+use Rattle.run_model.specs.Pairs.{AreMatched, IsMatched, Name, PostAccepts, named, pair_of, pairs_of, partner_of, post_accepts}
 use Rattle.run_model.specs.Run.{IsEvent, IsRun}
 use Rattle.run_model.specs.Serial.{call_after}
-use Rattle.run_model.specs.Views.{Next, View, is_start, start_at, view_of}
+use Rattle.run_model.specs.Views.{Next, View, is_start, moment_of, start_at, view_of}
 use Rattle.run_model.proofs.AllEntered.{AllListed, all_made, listed_more}
 use Rattle.run_model.proofs.Along.{Along-keeps, Along-snoc}
 use Rattle.run_model.proofs.Numbered.{AllMade}
@@ -65,7 +65,7 @@ made_in next n lawful events run =
 
 -- 2. pairs meet their conditions
 
-takes_same : (N M : Name → Option Call) → ((name : Name) → N name ≡ M name) → (post send : Name) → Takes N post send → Takes M post send
+takes_same : (N M : Name → Option Call) → ((name : Name) → N name ≡ M name) → (post send : Name) → PostAccepts N post send → PostAccepts M post send
 takes_same N M names post send takes =
     record {
       post_call = takes.post_call;
@@ -80,16 +80,16 @@ conditions_same : (N M : Name → Option Call) (P Q : List (Name × Name)) → (
 conditions_same N M P Q names pairs matched =
     let back : (name : Name) → M name ≡ N name = λ name. sym (names name) in
     record {
-      pair = λ a b h. elim (matched.pair a b (pairs a ∙ h)) [
+      pairs_accept = λ a b h. elim (matched.pairs_accept a b (pairs a ∙ h)) [
         | inl takes ↦ inl (takes_same N M names a b takes)
         | inr takes ↦ inr (takes_same N M names b a takes)
       ];
-      single = λ a b h. sym (pairs b) ∙ matched.single a b (pairs a ∙ h);
-      sends = λ post send h start less takes. ap is_some (sym (pairs (send.0, start)))
-          ∙ matched.sends post send (pairs post ∙ h) start less (takes_same M N back post (send.0, start) takes);
-      posts = λ post send h start less takes. ap is_some (sym (pairs (post.0, start)))
-          ∙ matched.posts post send (pairs post ∙ h) start less (takes_same M N back (post.0, start) send takes);
-      closed = λ post send takes p q. matched.closed post send (takes_same M N back post send takes) (pairs post ∙ p) (pairs send ∙ q);
+      one_partner = λ a b h. sym (pairs b) ∙ matched.one_partner a b (pairs a ∙ h);
+      no_overtaking = λ post send h start less takes. ap is_some (sym (pairs (send.0, start)))
+          ∙ matched.no_overtaking post send (pairs post ∙ h) start less (takes_same M N back post (send.0, start) takes);
+      earliest_receive = λ post send h start less takes. ap is_some (sym (pairs (post.0, start)))
+          ∙ matched.earliest_receive post send (pairs post ∙ h) start less (takes_same M N back (post.0, start) send takes);
+      nothing_waits = λ post send takes p q. matched.nothing_waits post send (takes_same M N back post send takes) (pairs post ∙ p) (pairs send ∙ q);
     }
 
 pub matched_same : (n : ℕ) (one other : List Event) → SameFuture n one other → IsMatched one → IsMatched other
@@ -108,7 +108,7 @@ matched_idle before event idle alone matched =
 
 -- no start takes a still one, or is taken by it
 never_taken : (before : List Event) (event : Event) → IsStill event → is_start (event.call, event.reply) ≡ true → (other : Name)
-    → Takes (named (before ++ event ∷ [])) other (new_name before event) → ⊥
+    → PostAccepts (named (before ++ event ∷ [])) other (new_name before event) → ⊥
 never_taken before event still t other takes =
     let here : Some event.call ≡ Some takes.send_call = sym (named-new before event t) ∙ takes.send_is in
     let same : event.call ≡ takes.send_call = cc in
@@ -118,7 +118,7 @@ never_taken before event still t other takes =
     cc
 
 never_takes : (before : List Event) (event : Event) → IsStill event → is_start (event.call, event.reply) ≡ true → (other : Name)
-    → Takes (named (before ++ event ∷ [])) (new_name before event) other → ⊥
+    → PostAccepts (named (before ++ event ∷ [])) (new_name before event) other → ⊥
 never_takes before event still t other takes =
     let here : Some event.call ≡ Some takes.post_call = sym (named-new before event t) ∙ takes.post_is in
     let same : event.call ≡ takes.post_call = cc in
@@ -155,13 +155,13 @@ step_on next n lawful before rank call pick good below asked offered goes matche
     (picks_go_on next n lawful picks before rank call pick (every_run_is_picked next n before good.run good.numbered) below asked offered goes matched).more in
     record { run = more.run; numbered = picks_number_in_order next n (picks_and picks (length before) pick) after more }
 
-take_prompt : (n : ℕ) (before : List Event) (me : ℕ) (call : Call) → is_steady call ≡ true → halt_in (picked_answer n before me (view_of before me) call First) ≡ None
+take_prompt : (n : ℕ) (before : List Event) (me : ℕ) (call : Call) → is_steady call ≡ true → halt_of_reply (picked_answer n before me (view_of before me) call First) ≡ None
     → picked_answer n before me (view_of before me) call First ≢ NotYet → is_prompt n before me (view_of before me) call ≡ true
 take_prompt n before me (Post comm source tag room) h free ready = refl
 take_prompt n before me End h free ready = refl
 take_prompt n before me (Take starts All) h free ready =
     let own : View = view_of before me in
-    all_ready n before me own starts false (items_at n before me own starts (true_places 0 (flags_of n before me own starts))) free ready
+    all_ready n before me own starts false (items_at (moment_of n before me own) starts (true_places 0 (flags_of (moment_of n before me own) starts))) free ready
 take_prompt n before me (Take starts TestAll) h free ready = refl
 take_prompt n before me (Take starts mode) h free ready = absurd (cc)
 take_prompt n before me call h free ready = absurd (cc)
@@ -169,7 +169,7 @@ take_prompt n before me call h free ready = absurd (cc)
 pub quiet_goes : (n : ℕ) (before : List Event) (me : ℕ) (call : Call) → IsAnswered n before me call → can_go n before me (view_of before me) call ≡ true
 quiet_goes n before me call a =
     let was : picked_reply n before me call First ≡ picked_answer n before me (view_of before me) call First = reply_answer n before me call First (reply_free n before me call First a.free) in
-    let F : Reply → Type 0 = λ r. halt_in r ≡ None in
+    let F : Reply → Type 0 = λ r. halt_of_reply r ≡ None in
     let G : Reply → Type 0 = λ r. r ≢ NotYet in
     or_right (is_some (due n before me (view_of before me) call)) (is_prompt n before me (view_of before me) call)
     (take_prompt n before me call a.kind (subst F was a.free) (subst G was a.ready))

@@ -20,14 +20,14 @@ use Rattle.mpi_call.specs.Collectives.{is_uncoloured, members_made}
 use Rattle.run_model.specs.declared.event.Event.{Event}
 use Rattle.run_model.specs.Allowed.{first_long, flags_of, taken_reply, true_places}
 use Rattle.run_model.specs.Choice.{choice}
-use Rattle.run_model.specs.Chosen.{collected, collected_by, got_of, halt_or, held_reply, items_at, message_in, message_of}
-use Rattle.run_model.specs.Communicators.{members_in}
-use Rattle.run_model.specs.Due.{due, halt_at, halt_in, halted, is_full}
+use Rattle.run_model.specs.Chosen.{collected, collected_by, got_of, halt_or, held_reply, items_at, message_of_pair, message_of}
+use Rattle.run_model.specs.Communicators.{members_for_rank}
+use Rattle.run_model.specs.Due.{due, halt_at, halt_of_reply, halted, is_full}
 use Rattle.run_model.specs.Inputs.{inputs_of, is_gathered}
 use Rattle.run_model.specs.Numbers.{Origin, communicators_of, made_at, number_among, origin_of}
 use Rattle.run_model.specs.Pairs.{IsMatched, Name, named, pair_of, pairs_of, partner_of, same_name}
 use Rattle.run_model.specs.Readiness.{is_ready}
-use Rattle.run_model.specs.Views.{View, is_start, start_at, view_of}
+use Rattle.run_model.specs.Views.{View, is_start, moment_at, moment_of, start_at, view_of}
 use Rattle.run_model.proofs.Choosing.{choice_is_none}
 use Rattle.run_model.proofs.ChosenGots.{AllOf}
 use Rattle.run_model.proofs.Gathering.{inputs-kept}
@@ -47,7 +47,7 @@ use Rattle.quiet_calls.proofs.Beside.{named_on}
 
 -- 1. its event is still, whatever is picked
 
-held_no : (test : Bool) → halt_in (held_reply test) ≡ None → held_reply test ≢ NotYet → ⊥
+held_no : (test : Bool) → halt_of_reply (held_reply test) ≡ None → held_reply test ≢ NotYet → ⊥
 held_no true free ready = ready refl
 held_no false free ready = cc
 
@@ -152,8 +152,8 @@ gathered_of : (r : Result (List (List ℤ)) ℕ) → is_gathered r ≡ true → 
 gathered_of (Ok inputs) h = (inputs, refl)
 gathered_of (Err m) h = absurd (cc)
 
-pub ready_on : (n : ℕ) (before : List Event) (event : Event) (me : ℕ) (own : View) (k : ℕ) (start : Option Call) → is_ready n before me own k start ≡ true
-    → is_ready n (before ++ event ∷ []) me own k start ≡ true
+pub ready_on : (n : ℕ) (before : List Event) (event : Event) (me : ℕ) (own : View) (k : ℕ) (start : Option Call) → is_ready (moment_of n before me own) k start ≡ true
+    → is_ready (moment_of n (before ++ event ∷ []) me own) k start ≡ true
 ready_on n before event me own k None h = absurd (cc)
 ready_on n before event me own k (Some (Send comm dest tag ints sync)) h =
     elim (or_cases (not sync) (is_some (partner_of (pairs_of before) (me, k))) h) [
@@ -176,7 +176,7 @@ ready_on n before event me own k (Some End) h = absurd (cc)
 -- a paired start is there
 pub there_of : (before : List Event) (name other : Name) → IsMatched before → partner_of (pairs_of before) name ≡ Some other → (call : Call) × (named before other ≡ Some call)
 there_of before name other matched h =
-    elim (matched.pair name other h) [
+    elim (matched.pairs_accept name other h) [
       | inl takes ↦ (takes.send_call, takes.send_is)
       | inr takes ↦ (takes.post_call, takes.post_is)
     ]
@@ -187,24 +187,24 @@ message_on before event name matched h =
     let p = some_of (partner_of (pairs_of before) name) h in
     let there = there_of before name p.0 matched p.1 in
     ap (message_of (before ++ event ∷ [])) (paired_on before event name p.0 p.1)
-    ∙ (ap (message_in p.0) (named_on before (event ∷ []) p.0 there.0 there.1 ∙ sym there.1) ∙ sym (ap (message_of before) p.1))
+    ∙ (ap (message_of_pair p.0) (named_on before (event ∷ []) p.0 there.0 there.1 ∙ sym there.1) ∙ sym (ap (message_of before) p.1))
 
 collected_on : (makes_it uncoloured : Bool) (n : ℕ) (before : List Event) (event : Event) (me k : ℕ) (enter : Call) (inputs : List (List ℤ)) → AllMade n before
     → start_at (view_of before me) k ≡ Some enter → makes enter ≡ makes_it → is_uncoloured enter ≡ uncoloured
     → inputs_of n (view_of before) me (view_of before me) k enter ≡ Ok inputs
-    → collected_by makes_it uncoloured n (before ++ event ∷ []) me (view_of before me) k enter inputs ≡ collected_by makes_it uncoloured n before me (view_of before me) k enter inputs
+    → collected_by makes_it uncoloured (moment_of n (before ++ event ∷ []) me (view_of before me)) k enter inputs ≡ collected_by makes_it uncoloured (moment_at n before me) k enter inputs
 collected_on true true n before event me k enter inputs made at m u h = refl
 collected_on true false n before event me k enter inputs made at m u h =
     let own : View = view_of before me in
     let origin : Origin = origin_of own k enter in
-    let give : ℕ → Got = λ number. Made number (members_made enter (members_in n own (comm_of enter)) inputs me) in
+    let give : ℕ → Got = λ number. Made number (members_made enter (members_for_rank n own (comm_of enter)) inputs me) in
     ap give (ap (λ l. number_among l origin) (communicators_of-push n before event)
     ∙ number_kept (communicators_of n before) (made_at n before event) origin (made me k enter inputs at m u h))
 collected_on false uncoloured n before event me k enter inputs made at m u h = refl
 
 got_on : (n : ℕ) (before : List Event) (event : Event) (me k : ℕ) (start : Option Call) → IsMatched before → AllMade n before → start_at (view_of before me) k ≡ start
-    → is_ready n before me (view_of before me) k start ≡ true
-    → got_of n (before ++ event ∷ []) me (view_of before me) k start ≡ got_of n before me (view_of before me) k start
+    → is_ready (moment_at n before me) k start ≡ true
+    → got_of (moment_of n (before ++ event ∷ []) me (view_of before me)) k start ≡ got_of (moment_at n before me) k start
 got_on n before event me k None matched made at h = absurd (cc)
 got_on n before event me k (Some (Send comm dest tag ints sync)) matched made at h = refl
 got_on n before event me k (Some (Post comm Null tag room)) matched made at h = refl
@@ -214,9 +214,9 @@ got_on n before event me k (Some (Enter comm kind root op count ints)) matched m
     let enter : Call = Enter comm kind root op count ints in
     let own : View = view_of before me in
     let g = gathered_of (inputs_of n (view_of before) me own k enter) h in
-    ap (collected n (before ++ event ∷ []) me own k enter) (inputs_on n before event me own k enter g.0 g.1)
+    ap (collected (moment_of n (before ++ event ∷ []) me own) k enter) (inputs_on n before event me own k enter g.0 g.1)
     ∙ (collected_on (makes enter) (is_uncoloured enter) n before event me k enter g.0 made at refl refl g.1
-    ∙ sym (ap (collected n before me own k enter) g.1))
+    ∙ sym (ap (collected (moment_of n before me own) k enter) g.1))
 got_on n before event me k (Some (Take starts mode)) matched made at h = absurd (cc)
 got_on n before event me k (Some (Peek comm source tag wait)) matched made at h = absurd (cc)
 got_on n before event me k (Some (Abort code)) matched made at h = absurd (cc)
@@ -243,15 +243,15 @@ true_at P low (flag ∷ flags) each =
     ]
 
 items_on : (n : ℕ) (before : List Event) (event : Event) (me : ℕ) (starts indices : List ℕ) → IsMatched before → AllMade n before
-    → AllOf (λ i. is_ready n before me (view_of before me) (slice_index starts i) (start_at (view_of before me) (slice_index starts i)) ≡ true) indices
-    → items_at n (before ++ event ∷ []) me (view_of before me) starts indices ≡ items_at n before me (view_of before me) starts indices
+    → AllOf (λ i. is_ready (moment_at n before me) (slice_index starts i) (start_at (view_of before me) (slice_index starts i)) ≡ true) indices
+    → items_at (moment_of n (before ++ event ∷ []) me (view_of before me)) starts indices ≡ items_at (moment_at n before me) starts indices
 items_on n before event me starts [] matched made all = refl
 items_on n before event me starts (index ∷ indices) matched made all =
     let own : View = view_of before me in
     let k : ℕ = slice_index starts index in
     let item : Got → Item = λ got. record { index = index; got = got } in
-    ap (λ got. item got ∷ items_at n (before ++ event ∷ []) me own starts indices) (got_on n before event me k (start_at own k) matched made refl all.0)
-    ∙ ap (λ (items : List Item). item (got_of n before me own k (start_at own k)) ∷ items) (items_on n before event me starts indices matched made all.1)
+    ap (λ got. item got ∷ items_at (moment_of n (before ++ event ∷ []) me own) starts indices) (got_on n before event me k (start_at own k) matched made refl all.0)
+    ∙ ap (λ (items : List Item). item (got_of (moment_of n before me own) k (start_at own k)) ∷ items) (items_on n before event me starts indices matched made all.1)
 
 -- what a completion of all gives, by the flags and the items
 abbrev all_reply : ℕ → View → List ℕ → Bool → List Bool → List Item → Reply
@@ -259,32 +259,32 @@ all_reply me own starts test flags items =
     if list_all (λ x. x) flags then taken_reply me (first_long own starts items) items else held_reply test
 
 pub all_on : (n : ℕ) (before : List Event) (event : Event) (me : ℕ) (starts : List ℕ) (test : Bool) → IsMatched before → AllMade n before
-    → list_all (λ x. x) (flags_of n before me (view_of before me) starts) ≡ true
-    → all_reply me (view_of before me) starts test (flags_of n (before ++ event ∷ []) me (view_of before me) starts)
-    (items_at n (before ++ event ∷ []) me (view_of before me) starts (true_places 0 (flags_of n (before ++ event ∷ []) me (view_of before me) starts)))
-    ≡ all_reply me (view_of before me) starts test (flags_of n before me (view_of before me) starts)
-    (items_at n before me (view_of before me) starts (true_places 0 (flags_of n before me (view_of before me) starts)))
+    → list_all (λ x. x) (flags_of (moment_at n before me) starts) ≡ true
+    → all_reply me (view_of before me) starts test (flags_of (moment_of n (before ++ event ∷ []) me (view_of before me)) starts)
+    (items_at (moment_of n (before ++ event ∷ []) me (view_of before me)) starts (true_places 0 (flags_of (moment_of n (before ++ event ∷ []) me (view_of before me)) starts)))
+    ≡ all_reply me (view_of before me) starts test (flags_of (moment_at n before me) starts)
+    (items_at (moment_at n before me) starts (true_places 0 (flags_of (moment_at n before me) starts)))
 all_on n before event me starts test matched made h =
     let own : View = view_of before me in
     let after : List Event = before ++ event ∷ [] in
-    let first : ℕ → Bool = λ k. is_ready n before me own k (start_at own k) in
-    let second : ℕ → Bool = λ k. is_ready n after me own k (start_at own k) in
-    let flags : flags_of n after me own starts ≡ flags_of n before me own starts =
+    let first : ℕ → Bool = λ k. is_ready (moment_of n before me own) k (start_at own k) in
+    let second : ℕ → Bool = λ k. is_ready (moment_of n after me own) k (start_at own k) in
+    let flags : flags_of (moment_of n after me own) starts ≡ flags_of (moment_of n before me own) starts =
     all_same first second starts (λ k t. ready_on n before event me own k (start_at own k) t) h in
     let F : List ℕ → Type 0 = λ l. AllOf (λ i. first (slice_index starts i) ≡ true) l in
-    let ready : AllOf (λ i. first (slice_index starts i) ≡ true) (true_places 0 (flags_of n before me own starts)) =
-    true_at (λ i. first (slice_index starts i) ≡ true) 0 (flags_of n before me own starts)
+    let ready : AllOf (λ i. first (slice_index starts i) ≡ true) (true_places 0 (flags_of (moment_of n before me own) starts)) =
+    true_at (λ i. first (slice_index starts i) ≡ true) 0 (flags_of (moment_of n before me own) starts)
     (λ i t. (let e : i ≡ 0 + i = omega arith in let P : ℕ → Type 0 = λ x. first (slice_index starts x) ≡ true in subst P e (flag_there first starts i true t))) in
     let R : List Bool → List Item → Reply = λ l items. all_reply me own starts test l items in
-    ap (λ l. R l (items_at n after me own starts (true_places 0 l))) flags
-    ∙ ap (R (flags_of n before me own starts)) (items_on n before event me starts (true_places 0 (flags_of n before me own starts)) matched made ready)
+    ap (λ l. R l (items_at (moment_of n after me own) starts (true_places 0 l))) flags
+    ∙ ap (R (flags_of (moment_of n before me own) starts)) (items_on n before event me starts (true_places 0 (flags_of (moment_of n before me own) starts)) matched made ready)
 
 -- a reply that is neither a halt nor NotYet says that all is ready
 pub all_ready : (n : ℕ) (before : List Event) (me : ℕ) (own : View) (starts : List ℕ) (test : Bool) (items : List Item)
-    → halt_in (all_reply me own starts test (flags_of n before me own starts) items) ≡ None → all_reply me own starts test (flags_of n before me own starts) items ≢ NotYet
-    → list_all (λ x. x) (flags_of n before me own starts) ≡ true
+    → halt_of_reply (all_reply me own starts test (flags_of (moment_of n before me own) starts) items) ≡ None → all_reply me own starts test (flags_of (moment_of n before me own) starts) items ≢ NotYet
+    → list_all (λ x. x) (flags_of (moment_of n before me own) starts) ≡ true
 all_ready n before me own starts test items free ready =
-    elim (test_cases (list_all (λ x. x) (flags_of n before me own starts))) [
+    elim (test_cases (list_all (λ x. x) (flags_of (moment_of n before me own) starts))) [
       | inl t ↦ t
       | inr f ↦ absurd (held_no test (rw f at free) (rw f at ready))
     ]
@@ -309,12 +309,12 @@ pub free_due : (n : ℕ) (before : List Event) (me : ℕ) (call : Call) → IsFr
 free_due n before me call free = rw (free.halts, free.full, free.own) refl
 
 -- a reply that is no halt comes where none is due
-pub reply_free : (n : ℕ) (before : List Event) (me : ℕ) (call : Call) (pick : Pick) → halt_in (picked_reply n before me call pick) ≡ None
+pub reply_free : (n : ℕ) (before : List Event) (me : ℕ) (call : Call) (pick : Pick) → halt_of_reply (picked_reply n before me call pick) ≡ None
     → due n before me (view_of before me) call ≡ None
 reply_free n before me call pick free =
     elim (option_cases (due n before me (view_of before me) call)) [
       | inl some ↦
-          let no : Some some.0 ≡ None = sym (ap (λ o. halt_in (halt_or o (picked_answer n before me (view_of before me) call pick))) some.1) ∙ free in
+          let no : Some some.0 ≡ None = sym (ap (λ o. halt_of_reply (halt_or o (picked_answer n before me (view_of before me) call pick))) some.1) ∙ free in
           absurd (cc)
       | inr none ↦ none
     ]
@@ -331,25 +331,25 @@ halt_on n before after me own End h none = refl
 halt_on n before after me own call h none = absurd (cc)
 
 answer_on : (n : ℕ) (before : List Event) (event : Event) (me : ℕ) (call : Call) → is_steady call ≡ true → IsMatched before → AllMade n before
-    → halt_in (picked_answer n before me (view_of before me) call First) ≡ None → picked_answer n before me (view_of before me) call First ≢ NotYet
+    → halt_of_reply (picked_answer n before me (view_of before me) call First) ≡ None → picked_answer n before me (view_of before me) call First ≢ NotYet
     → picked_answer n (before ++ event ∷ []) me (view_of before me) call First ≡ picked_answer n before me (view_of before me) call First
 answer_on n before event me (Post comm source tag room) h matched made free ready = refl
 answer_on n before event me End h matched made free ready = refl
 answer_on n before event me (Take starts All) h matched made free ready =
     let own : View = view_of before me in
     all_on n before event me starts false matched made
-    (all_ready n before me own starts false (items_at n before me own starts (true_places 0 (flags_of n before me own starts))) free ready)
+    (all_ready n before me own starts false (items_at (moment_of n before me own) starts (true_places 0 (flags_of (moment_of n before me own) starts))) free ready)
 answer_on n before event me (Take starts TestAll) h matched made free ready =
     let own : View = view_of before me in
     all_on n before event me starts true matched made
-    (all_ready n before me own starts true (items_at n before me own starts (true_places 0 (flags_of n before me own starts))) free ready)
+    (all_ready n before me own starts true (items_at (moment_of n before me own) starts (true_places 0 (flags_of (moment_of n before me own) starts))) free ready)
 answer_on n before event me (Take starts mode) h matched made free ready = absurd (cc)
 answer_on n before event me call h matched made free ready = absurd (cc)
 
 -- a quiet call that is answered, other than by a halt or NotYet
 pub record IsAnswered (n : ℕ) (before : List Event) (me : ℕ) (call : Call) : Type 0 where
   pub kind : is_steady call ≡ true
-  pub free : halt_in (picked_reply n before me call First) ≡ None
+  pub free : halt_of_reply (picked_reply n before me call First) ≡ None
   pub ready : picked_reply n before me call First ≢ NotYet
 
 pub record IsAnsweredOn (n : ℕ) (before after : List Event) (me : ℕ) (call : Call) : Type 0 where
@@ -369,7 +369,7 @@ answered_on n before event me call a matched made apart halts full =
     let H : View → Type 0 = λ v. halt_at n after me v call ≡ None in
     let now : due n after me (view_of after me) call ≡ None =
     free_due n after me call (record { halts = halts; full = full; own = subst H (sym seen) there }) in
-    let F : Reply → Type 0 = λ r. halt_in r ≡ None in
+    let F : Reply → Type 0 = λ r. halt_of_reply r ≡ None in
     let G : Reply → Type 0 = λ r. r ≢ NotYet in
     let answer : picked_answer n after me (view_of after me) call First ≡ picked_answer n before me own call First =
     ap (λ (v : View). picked_answer n after me v call First) seen ∙ answer_on n before event me call a.kind matched made (subst F was a.free) (subst G was a.ready) in
@@ -379,5 +379,5 @@ answered_on n before event me call a matched made apart halts full =
       same = ap (λ r. E r (picked_mate after me call r First)) reply
           ∙ ap (E (picked_reply n before me call First)) (still_mate after me call (picked_reply n before me call First) a.kind
           ∙ sym (still_mate before me call (picked_reply n before me call First) a.kind));
-      answered = record { kind = a.kind; free = ap halt_in reply ∙ a.free; ready = subst G (sym reply) a.ready };
+      answered = record { kind = a.kind; free = ap halt_of_reply reply ∙ a.free; ready = subst G (sym reply) a.ready };
     }

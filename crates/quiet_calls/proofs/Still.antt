@@ -10,7 +10,7 @@ use Rattle.mpi_call.specs.declared.reply.Got.TheVariants.{Nothing}
 use Rattle.mpi_call.specs.Acceptance.{accepts, tag_agrees}
 use Rattle.run_model.specs.declared.event.Event.{Event}
 use Rattle.run_model.specs.Choice.{suits}
-use Rattle.run_model.specs.Chosen.{message_in}
+use Rattle.run_model.specs.Chosen.{message_of_pair}
 use Rattle.run_model.specs.Communicators.{is_on}
 use Rattle.run_model.specs.Numbers.{origins_from}
 use Rattle.run_model.specs.Pairs.{Name, post_accepts}
@@ -58,7 +58,7 @@ accepted_never me (Post comm source tag room) owner start h = accepts_still me c
 accepted_never me post owner start h = refl
 
 -- it has no message
-pub still_message : (name : Name) (start : Call) → is_still start ≡ true → message_in name (Some start) ≡ Nothing
+pub still_message : (name : Name) (start : Call) → is_still start ≡ true → message_of_pair name (Some start) ≡ Nothing
 still_message name (Send c dest t ints sync) h = absurd (cc)
 still_message name start h = refl
 

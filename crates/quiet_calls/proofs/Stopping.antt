@@ -17,7 +17,7 @@ use Rattle.run_model.specs.Pairs.{IsMatched}
 use Rattle.run_model.specs.Program.{ends}
 use Rattle.run_model.specs.Run.{IsEvent}
 use Rattle.run_model.specs.Serial.{call_after}
-use Rattle.run_model.specs.Views.{Next, View, is_start, replies_in, view_of}
+use Rattle.run_model.specs.Views.{Next, View, is_start, moment_at, replies_in, view_of}
 use Rattle.run_model.proofs.RunLaws.{Lawful, kept_run}
 use Rattle.run_model.proofs.Views.{test_cases, view_of-append, view_of-mine, view_of-other}
 use Rattle.picked_runs.specs.declared.turn.Pick.TheVariants.{First}
@@ -38,7 +38,7 @@ pub stopped_again : (next : Next) (n : ℕ) (now : List Event) (event : Event) (
 stopped_again next n now event halt h step =
     let F : Option Halt → Type 0 = λ o. IsAllowedBy
     (or_else o (if is_full now then Some Limit else halt_at n now event.rank (view_of now event.rank) event.call))
-    (IsStuck next n now) n now event.rank (view_of now event.rank) event.call event.reply in
+    (IsStuck next n now) (moment_at n now event.rank) event.call event.reply in
     subst F h step.reply
 
 due_again : (n : ℕ) (now : List Event) (rank : ℕ) (call : Call) (halt : Halt) → halted now ≡ Some halt → due n now rank (view_of now rank) call ≡ Some halt

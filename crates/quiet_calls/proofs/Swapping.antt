@@ -4,7 +4,7 @@ use Rattle.std.proofs.Math.Path.{fun_ext}
 use Rattle.std.proofs.lemmas.Bool.{eq-eqb, eqb-true, false_from_ne_true}
 use Rattle.mpi_call.specs.Calls.{comm_of}
 use Rattle.run_model.specs.declared.event.Event.{Event}
-use Rattle.run_model.specs.Communicators.{Entered, count_on, enter_at, members_in}
+use Rattle.run_model.specs.Communicators.{Entered, count_on, enter_at, members_for_rank}
 use Rattle.run_model.specs.Inputs.{gather}
 use Rattle.run_model.specs.Numbers.{Origin, communicators_of, made_at, origins_from}
 use Rattle.run_model.specs.Pairs.{Name, name_at, pair_of, pair_with, pairs_of, partner_of}
@@ -14,7 +14,7 @@ use Rattle.run_model.proofs.Numbered.{communicators_of-push}
 use Rattle.run_model.proofs.Positions.{new_name}
 use Rattle.run_model.proofs.Views.{option_cases, test_cases, view_of-append, view_of-other}
 use Rattle.picked_runs.proofs.Grown.{pairs_of-push}
-use Rattle.run_states.specs.Futures.{SameFuture, mate_in}
+use Rattle.run_states.specs.Futures.{SameFuture, mate_name}
 use Rattle.quiet_calls.proofs.Still.{IsStill}
 use Rattle.quiet_calls.proofs.Beside.{enters_stay, made_stay, name_on, pairs_stay}
 
@@ -52,7 +52,7 @@ views_swapped before x q apart rank =
 
 -- 2. pairs
 
-pub pair_is : (before : List Event) (event : Event) → pair_of before event ≡ pair_with (mate_in before event.mate) (new_name before event)
+pub pair_is : (before : List Event) (event : Event) → pair_of before event ≡ pair_with (mate_name before event.mate) (new_name before event)
 pair_is before event =
     elim (option_cases event.mate) [
       | inl some ↦ rw some.1 refl
@@ -64,13 +64,13 @@ has_name before event at h has =
     let m : (name : Name) × (name_at before at ≡ Some name) × (partner_of (pairs_of before) name ≡ None) × IsTrue (is_start (event.call, event.reply)) = rw h at has in
     (m.0, m.1)
 
-pub mate_stays : (before more : List Event) (event : Event) → HasMate before event → mate_in (before ++ more) event.mate ≡ mate_in before event.mate
+pub mate_stays : (before more : List Event) (event : Event) → HasMate before event → mate_name (before ++ more) event.mate ≡ mate_name before event.mate
 mate_stays before more event has =
     elim (option_cases event.mate) [
       | inl some ↦
           let m = has_name before event some.0 some.1 has in
-          ap (mate_in (before ++ more)) some.1 ∙ (name_on before more some.0 m.0 m.1 ∙ (sym m.1 ∙ sym (ap (mate_in before) some.1)))
-      | inr none ↦ ap (mate_in (before ++ more)) none ∙ sym (ap (mate_in before) none)
+          ap (mate_name (before ++ more)) some.1 ∙ (name_on before more some.0 m.0 m.1 ∙ (sym m.1 ∙ sym (ap (mate_name before) some.1)))
+      | inr none ↦ ap (mate_name (before ++ more)) none ∙ sym (ap (mate_name before) none)
     ]
 
 pair_stays : (before : List Event) (x q : Event) → HasMate before x → (q.rank == x.rank) ≡ false → pair_of (before ++ q ∷ []) x ≡ pair_of before x
@@ -78,7 +78,7 @@ pair_stays before x q has apart =
     let count : View → Name = λ v. (x.rank, length (starts_of v)) in
     pair_is (before ++ q ∷ []) x
     ∙ (ap (λ m. pair_with m (new_name (before ++ q ∷ []) x)) (mate_stays before (q ∷ []) x has)
-    ∙ (ap (λ (v : View). pair_with (mate_in before x.mate) (count v)) (view_of-other before q x.rank apart) ∙ sym (pair_is before x)))
+    ∙ (ap (λ (v : View). pair_with (mate_name before x.mate) (count v)) (view_of-other before q x.rank apart) ∙ sym (pair_is before x)))
 
 pairs_swapped : (before : List Event) (x q : Event) → IsStill q → HasMate before x → (q.rank == x.rank) ≡ false
     → pairs_of ((before ++ x ∷ []) ++ q ∷ []) ≡ pairs_of ((before ++ q ∷ []) ++ x ∷ [])
@@ -95,7 +95,7 @@ abbrev pub made_with : ℕ → (ℕ → ℕ → ℕ → Option Entered) → View
 made_with n find own event =
     if is_start (event.call, event.reply)
     then origins_from
-    (gather (λ m. true) (λ m. find m (comm_of event.call) (count_on (comm_of event.call) (starts_of own))) (members_in n own (comm_of event.call)))
+    (gather (λ m. true) (λ m. find m (comm_of event.call) (count_on (comm_of event.call) (starts_of own))) (members_for_rank n own (comm_of event.call)))
     (count_on (comm_of event.call) (starts_of own)) event.call
     else []
 

@@ -12,17 +12,18 @@ use Rattle.mpi_call.specs.declared.reply.Reply.{Reply}
 use Rattle.mpi_call.specs.declared.reply.Reply.TheVariants.{Stopped}
 use Rattle.run_model.specs.declared.ending.Ending.TheVariants.{Halted}
 use Rattle.run_model.specs.declared.event.Event.{Event}
-use Rattle.run_model.specs.Allowed.{IsAllowedBy, IsAnswer, IsHeld, IsPeekAnswer, IsStuck, IsTakeAnswer, first_long, flags_of, has_open, holds, taken_reply}
+use Rattle.run_model.specs.Allowed.{IsAllowedBy, IsAnswer, IsHeld, IsPeekAnswer, IsStuck, IsTakeAnswer, first_long, flags_of, has_open, mode_holds, probe_of, taken_reply}
 use Rattle.run_model.specs.Due.{bad_halt, bad_request, due, halt_at, halted, is_full, is_mismatched}
 use Rattle.run_model.specs.Run.{IsEvent}
 use Rattle.run_model.specs.Shape.{is_test}
-use Rattle.run_model.specs.Views.{Next, View, replies_in, view_of}
+use Rattle.run_model.specs.Views.{Next, View, moment_of, replies_in, view_of}
 use Rattle.run_model.proofs.Views.{option_cases}
-use Rattle.run_states.specs.Outcomes.{Outcome, Output, ending_told, halted_outcome, last_replies, ranks_told, replies_and}
+use Rattle.srr_entry.specs.Outputs.{Output}
+use Rattle.run_states.specs.Outcomes.{RunOutcome, reported_ending, halted_outcome, last_replies, reported_ranks, replies_and}
 
 -- a halt whose outcome tells what this rank printed, or nothing
 abbrev pub TellsOnly : ℕ → ℕ → Halt → Type 0
-TellsOnly n me halt = (ranks_told n (Halted halt) ≡ me ∷ []) ⊎ (ranks_told n (Halted halt) ≡ [])
+TellsOnly n me halt = (reported_ranks n (Halted halt) ≡ me ∷ []) ⊎ (reported_ranks n (Halted halt) ≡ [])
 
 -- 1. the halt of a rank's call
 
@@ -59,18 +60,18 @@ taken_told n me (Some k) items halt h =
     subst F same (inl refl)
 
 take_told : (condition : Bool) (stuck : Type 0) (n : ℕ) (before : List Event) (me : ℕ) (own : View) (starts : List ℕ) (mode : TakeMode) (halt : Halt)
-    → IsTakeAnswer condition stuck n before me own starts mode (Stopped halt) → TellsOnly n me halt ⊎ stuck
+    → IsTakeAnswer condition stuck (moment_of n before me own) starts mode (Stopped halt) → TellsOnly n me halt ⊎ stuck
 take_told true stuck n before me own starts mode halt is = inl (taken_told n me (first_long own starts is.items) is.items halt is.reply_is)
 take_told false stuck n before me own starts mode halt is = inr (held_told (is_test mode) stuck halt is)
 
 peek_told : (found : Bool) (stuck : Type 0) (n : ℕ) (before : List Event) (me comm : ℕ) (source : Source) (tag : Tag) (wait : Bool) (halt : Halt)
-    → IsPeekAnswer found stuck before me comm source tag wait (Stopped halt) → TellsOnly n me halt ⊎ stuck
+    → IsPeekAnswer found stuck before (probe_of me comm source tag) wait (Stopped halt) → TellsOnly n me halt ⊎ stuck
 peek_told true stuck n before me comm source tag wait halt is = (let no = is.reply_is in absurd (cc))
 peek_told false stuck n before me comm source tag wait halt is = inr (held_told (not wait) stuck halt is)
 
-answer_told : (stuck : Type 0) (n : ℕ) (before : List Event) (me : ℕ) (own : View) (call : Call) (halt : Halt) → IsAnswer stuck n before me own call (Stopped halt)
+answer_told : (stuck : Type 0) (n : ℕ) (before : List Event) (me : ℕ) (own : View) (call : Call) (halt : Halt) → IsAnswer stuck (moment_of n before me own) call (Stopped halt)
     → TellsOnly n me halt ⊎ stuck
-answer_told stuck n before me own (Take starts mode) halt is = take_told (holds mode (flags_of n before me own starts)) stuck n before me own starts mode halt is
+answer_told stuck n before me own (Take starts mode) halt is = take_told (mode_holds mode (flags_of (moment_of n before me own) starts)) stuck n before me own starts mode halt is
 answer_told stuck n before me own (Peek comm source tag wait) halt is = peek_told (has_open n before me comm source tag) stuck n before me comm source tag wait halt is
 answer_told stuck n before me own call halt is = absurd (cc)
 
@@ -81,7 +82,7 @@ halt_told next n before x halt step stopped none room =
     let own : View = view_of before x.rank in
     let found : Option Halt = halt_at n before x.rank own x.call in
     let due_is : due n before x.rank own x.call ≡ found = rw (none, room) refl in
-    let F : Option Halt → Type 0 = λ o. IsAllowedBy o (IsStuck next n before) n before x.rank own x.call x.reply in
+    let F : Option Halt → Type 0 = λ o. IsAllowedBy o (IsStuck next n before) (moment_of n before x.rank own) x.call x.reply in
     let is : F found = subst F due_is step.reply in
     elim (option_cases found) [
       | inl some ↦
@@ -91,15 +92,15 @@ halt_told next n before x halt step stopped none room =
           let G : Halt → Type 0 = λ h. TellsOnly n x.rank h in
           inl (subst G same (own_told n before x.rank own x.call some.0 some.1))
       | inr free ↦
-          let R : Reply → Type 0 = λ r. IsAnswer (IsStuck next n before) n before x.rank own x.call r in
+          let R : Reply → Type 0 = λ r. IsAnswer (IsStuck next n before) (moment_of n before x.rank own) x.call r in
           answer_told (IsStuck next n before) n before x.rank own x.call halt (subst R stopped (subst F free is))
     ]
 
 -- 2. what it comes to
 
-abbrev told_by : Next → Output → ℕ → Halt → List Event → List ℕ → Outcome
+abbrev told_by : Next → Output → ℕ → Halt → List Event → List ℕ → RunOutcome
 told_by next output n halt before ranks =
-    record { ending = ending_told (Halted halt); printed = map (λ rank. (rank, output n rank (last_replies next n before halt rank))) ranks }
+    record { ending = reported_ending (Halted halt); printed = map (λ rank. (rank, output n rank (last_replies next n before halt rank))) ranks }
 
 pub outcomes_told : (next : Next) (output : Output) (n : ℕ) (one other : List Event) (me : ℕ) (halt : Halt) → TellsOnly n me halt → view_of one me ≡ view_of other me
     → halted_outcome next output n one halt ≡ halted_outcome next output n other halt
@@ -107,5 +108,5 @@ outcomes_told next output n one other me halt (inl only) same =
     let last : last_replies next n one halt me ≡ last_replies next n other halt me =
     ap (λ (v : View). replies_and (replies_in v) halt (next n me (replies_in v))) same in
     ap (told_by next output n halt one) only
-    ∙ (ap (λ r. record { ending = ending_told (Halted halt); printed = (me, output n me r) ∷ [] }) last ∙ sym (ap (told_by next output n halt other) only))
+    ∙ (ap (λ r. record { ending = reported_ending (Halted halt); printed = (me, output n me r) ∷ [] }) last ∙ sym (ap (told_by next output n halt other) only))
 outcomes_told next output n one other me halt (inr none) same = ap (told_by next output n halt one) none ∙ sym (ap (told_by next output n halt other) none)

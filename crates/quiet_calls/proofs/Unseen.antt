@@ -17,10 +17,10 @@ use Rattle.mpi_call.specs.declared.reply.Reply.{Reply}
 use Rattle.mpi_call.specs.Calls.{comm_of, listed_by, makes}
 use Rattle.mpi_call.specs.Collectives.{is_uncoloured, members_made, needs}
 use Rattle.run_model.specs.declared.event.Event.{Event}
-use Rattle.run_model.specs.Allowed.{can_go, first_long, flags_of, has_open, holds, is_prompt, taken_reply}
+use Rattle.run_model.specs.Allowed.{can_go, first_long, flags_of, has_open, mode_holds, is_prompt, taken_reply}
 use Rattle.run_model.specs.Choice.{choice}
 use Rattle.run_model.specs.Chosen.{collected, collected_by, got_of, halt_or, held_reply, items_at, message_of, peek_reply, peeked_at, peeked_in}
-use Rattle.run_model.specs.Communicators.{Entered, enter_at, instance_of, members_in}
+use Rattle.run_model.specs.Communicators.{Entered, enter_at, instance_of, members_for_rank}
 use Rattle.run_model.specs.Due.{disagrees, due, halt_at, halted, is_full, is_mismatched, or_else}
 use Rattle.run_model.specs.Inputs.{gather, inputs_of, is_gathered}
 use Rattle.run_model.specs.Lists.{world}
@@ -28,7 +28,7 @@ use Rattle.run_model.specs.Numbers.{Origin, communicators_of, number_among, orig
 use Rattle.run_model.specs.Pairs.{pairs_of, partner_of}
 use Rattle.run_model.specs.Readiness.{is_ready}
 use Rattle.run_model.specs.Shape.{is_test}
-use Rattle.run_model.specs.Views.{View, is_start, start_at, starts_of, view_of}
+use Rattle.run_model.specs.Views.{View, is_start, moment_of, start_at, starts_of, view_of}
 use Rattle.run_model.proofs.Choosing.{choice_some}
 use Rattle.run_model.proofs.Views.{option_cases, view_of-other}
 use Rattle.picked_runs.specs.declared.turn.Pick.{Pick}
@@ -55,12 +55,12 @@ pub record LeavesAlone (n : ℕ) (before : List Event) (event : Event) (me : ℕ
 inputs_stay : (n : ℕ) (before : List Event) (event : Event) (me : ℕ) → LeavesAlone n before event me → (own : View) (k : ℕ) (enter : Call)
     → inputs_of n (view_of (before ++ event ∷ [])) me own k enter ≡ inputs_of n (view_of before) me own k enter
 inputs_stay n before event me b own k enter =
-    let members : List ℕ = members_in n own (comm_of enter) in
+    let members : List ℕ = members_for_rank n own (comm_of enter) in
     ap (λ (find : ℕ → Option Entered). gather (needs enter members me) find members)
     (fun_ext (λ m. b.enters (comm_of enter) (instance_of own k (comm_of enter)) m))
 
 ready_stays : (n : ℕ) (before : List Event) (event : Event) (me : ℕ) → LeavesAlone n before event me → (own : View) (k : ℕ) (start : Option Call)
-    → is_ready n (before ++ event ∷ []) me own k start ≡ is_ready n before me own k start
+    → is_ready (moment_of n (before ++ event ∷ []) me own) k start ≡ is_ready (moment_of n before me own) k start
 ready_stays n before event me b own k None = refl
 ready_stays n before event me b own k (Some (Send comm dest tag ints sync)) = ap (λ o. not sync || is_some o) (b.paired k)
 ready_stays n before event me b own k (Some (Post comm Null tag room)) = refl
@@ -75,7 +75,7 @@ ready_stays n before event me b own k (Some (Trap fault)) = refl
 ready_stays n before event me b own k (Some End) = refl
 
 pub flags_stay : (n : ℕ) (before : List Event) (event : Event) (me : ℕ) → LeavesAlone n before event me → (own : View) (starts : List ℕ)
-    → flags_of n (before ++ event ∷ []) me own starts ≡ flags_of n before me own starts
+    → flags_of (moment_of n (before ++ event ∷ []) me own) starts ≡ flags_of (moment_of n before me own) starts
 flags_stay n before event me b own starts =
     ap (λ (ready : ℕ → Bool). map ready starts) (fun_ext (λ k. ready_stays n before event me b own k (start_at own k)))
 
@@ -86,19 +86,19 @@ given_stays : (n : ℕ) (before : List Event) (event : Event) (me : ℕ) → Lea
 given_stays n before event me b k = ap (message_of (before ++ event ∷ [])) (b.paired k) ∙ b.given k
 
 collected_by-stays : (n : ℕ) (before : List Event) (event : Event) (me : ℕ) → LeavesAlone n before event me → (makes_it uncoloured : Bool) (own : View) (k : ℕ) (enter : Call) (inputs : List (List ℤ))
-    → collected_by makes_it uncoloured n (before ++ event ∷ []) me own k enter inputs ≡ collected_by makes_it uncoloured n before me own k enter inputs
+    → collected_by makes_it uncoloured (moment_of n (before ++ event ∷ []) me own) k enter inputs ≡ collected_by makes_it uncoloured (moment_of n before me own) k enter inputs
 collected_by-stays n before event me b true true own k enter inputs = refl
 collected_by-stays n before event me b true false own k enter inputs =
-    ap (λ (made : List Origin). Made (number_among made (origin_of own k enter)) (members_made enter (members_in n own (comm_of enter)) inputs me)) b.made
+    ap (λ (made : List Origin). Made (number_among made (origin_of own k enter)) (members_made enter (members_for_rank n own (comm_of enter)) inputs me)) b.made
 collected_by-stays n before event me b false uncoloured own k enter inputs = refl
 
 collected_stays : (n : ℕ) (before : List Event) (event : Event) (me : ℕ) → LeavesAlone n before event me → (own : View) (k : ℕ) (enter : Call) (inputs : Result (List (List ℤ)) ℕ)
-    → collected n (before ++ event ∷ []) me own k enter inputs ≡ collected n before me own k enter inputs
+    → collected (moment_of n (before ++ event ∷ []) me own) k enter inputs ≡ collected (moment_of n before me own) k enter inputs
 collected_stays n before event me b own k enter (Err missing) = refl
 collected_stays n before event me b own k enter (Ok inputs) = collected_by-stays n before event me b (makes enter) (is_uncoloured enter) own k enter inputs
 
 got_stays : (n : ℕ) (before : List Event) (event : Event) (me : ℕ) → LeavesAlone n before event me → (own : View) (k : ℕ) (start : Option Call)
-    → got_of n (before ++ event ∷ []) me own k start ≡ got_of n before me own k start
+    → got_of (moment_of n (before ++ event ∷ []) me own) k start ≡ got_of (moment_of n before me own) k start
 got_stays n before event me b own k None = refl
 got_stays n before event me b own k (Some (Send comm dest tag ints sync)) = refl
 got_stays n before event me b own k (Some (Post comm Null tag room)) = refl
@@ -106,7 +106,7 @@ got_stays n before event me b own k (Some (Post comm Any tag room)) = given_stay
 got_stays n before event me b own k (Some (Post comm (From source) tag room)) = given_stays n before event me b k
 got_stays n before event me b own k (Some (Enter comm kind root op count ints)) =
     let enter : Call = Enter comm kind root op count ints in
-    ap (collected n (before ++ event ∷ []) me own k enter) (inputs_stay n before event me b own k enter)
+    ap (collected (moment_of n (before ++ event ∷ []) me own) k enter) (inputs_stay n before event me b own k enter)
     ∙ collected_stays n before event me b own k enter (inputs_of n (view_of before) me own k enter)
 got_stays n before event me b own k (Some (Take starts mode)) = refl
 got_stays n before event me b own k (Some (Peek comm source tag wait)) = refl
@@ -115,13 +115,13 @@ got_stays n before event me b own k (Some (Trap fault)) = refl
 got_stays n before event me b own k (Some End) = refl
 
 items_stay : (n : ℕ) (before : List Event) (event : Event) (me : ℕ) → LeavesAlone n before event me → (own : View) (starts indices : List ℕ)
-    → items_at n (before ++ event ∷ []) me own starts indices ≡ items_at n before me own starts indices
+    → items_at (moment_of n (before ++ event ∷ []) me own) starts indices ≡ items_at (moment_of n before me own) starts indices
 items_stay n before event me b own starts [] = refl
 items_stay n before event me b own starts (index ∷ indices) =
     let k : ℕ = slice_index starts index in
     let item : Got → Item = λ got. record { index = index; got = got } in
-    ap (λ got. item got ∷ items_at n (before ++ event ∷ []) me own starts indices) (got_stays n before event me b own k (start_at own k))
-    ∙ ap (λ (items : List Item). item (got_of n before me own k (start_at own k)) ∷ items) (items_stay n before event me b own starts indices)
+    ap (λ got. item got ∷ items_at (moment_of n (before ++ event ∷ []) me own) starts indices) (got_stays n before event me b own k (start_at own k))
+    ∙ ap (λ (items : List Item). item (got_of (moment_of n before me own) k (start_at own k)) ∷ items) (items_stay n before event me b own starts indices)
 
 -- 3. the halt that is due, and whether the call can go
 
@@ -158,7 +158,7 @@ due_stays n before event me b own call =
 
 prompt_stays : (n : ℕ) (before : List Event) (event : Event) (me : ℕ) → LeavesAlone n before event me → (own : View) (call : Call)
     → is_prompt n (before ++ event ∷ []) me own call ≡ is_prompt n before me own call
-prompt_stays n before event me b own (Take starts mode) = ap (λ (flags : List Bool). is_test mode || holds mode flags) (flags_stay n before event me b own starts)
+prompt_stays n before event me b own (Take starts mode) = ap (λ (flags : List Bool). is_test mode || mode_holds mode flags) (flags_stay n before event me b own starts)
 prompt_stays n before event me b own (Peek comm source tag wait) = ap (λ (x : Bool). not wait || x) (b.opens comm source tag)
 prompt_stays n before event me b own (Send comm dest tag ints sync) = refl
 prompt_stays n before event me b own (Post comm source tag room) = refl
@@ -199,12 +199,12 @@ take_stays : (n : ℕ) (before : List Event) (event : Event) (me : ℕ) → Leav
     → picked_answer n (before ++ event ∷ []) me own (Take starts mode) pick ≡ picked_answer n before me own (Take starts mode) pick
 take_stays n before event me b own starts mode pick =
     let after : List Event = before ++ event ∷ [] in
-    let R : List Bool → List Item → Reply = λ flags items. (if holds mode flags then taken_reply me (first_long own starts items) items else held_reply (is_test mode)) in
-    let flags : flags_of n after me own starts ≡ flags_of n before me own starts = flags_stay n before event me b own starts in
-    let items : picked_items n after me own starts mode pick ≡ picked_items n before me own starts mode pick =
-    ap (λ (l : List Bool). items_at n after me own starts (picked_places mode l pick)) flags
-    ∙ items_stay n before event me b own starts (picked_places mode (flags_of n before me own starts) pick) in
-    ap (λ l. R l (picked_items n after me own starts mode pick)) flags ∙ ap (R (flags_of n before me own starts)) items
+    let R : List Bool → List Item → Reply = λ flags items. (if mode_holds mode flags then taken_reply me (first_long own starts items) items else held_reply (is_test mode)) in
+    let flags : flags_of (moment_of n after me own) starts ≡ flags_of (moment_of n before me own) starts = flags_stay n before event me b own starts in
+    let items : picked_items (moment_of n after me own) starts mode pick ≡ picked_items (moment_of n before me own) starts mode pick =
+    ap (λ (l : List Bool). items_at (moment_of n after me own) starts (picked_places mode l pick)) flags
+    ∙ items_stay n before event me b own starts (picked_places mode (flags_of (moment_of n before me own) starts) pick) in
+    ap (λ l. R l (picked_items (moment_of n after me own) starts mode pick)) flags ∙ ap (R (flags_of (moment_of n before me own) starts)) items
 
 answer_stays : (n : ℕ) (before : List Event) (event : Event) (me : ℕ) → LeavesAlone n before event me → (own : View) (call : Call) (pick : Pick)
     → picked_answer n (before ++ event ∷ []) me own call pick ≡ picked_answer n before me own call pick

@@ -9,13 +9,14 @@ use Rattle.run_model.specs.Due.{halted, total_size}
 use Rattle.run_model.specs.Lists.{Along}
 use Rattle.run_model.specs.Run.{IsRun}
 use Rattle.run_model.specs.Serial.{call_after}
-use Rattle.run_model.specs.Views.{Next}
+use Rattle.run_model.specs.Views.{Next, moment_at}
 use Rattle.picked_runs.specs.declared.turn.Pick.{Pick}
 use Rattle.picked_runs.specs.declared.turn.Pick.TheVariants.{First}
 use Rattle.picked_runs.specs.Numbering.{AreNumberedInOrder}
 use Rattle.picked_runs.specs.Picks.{picked_event}
-use Rattle.run_states.specs.Moves.{IsHalting, IsMet, IsMove}
-use Rattle.run_states.specs.Outcomes.{IsPatientEvent, IsProbeKept, IsWhole, KeepsProbes, Output, outcome_of}
+use Rattle.srr_entry.specs.Outputs.{Output}
+use Rattle.run_states.specs.Moves.{IsHalting, IsVisited, IsMove}
+use Rattle.run_states.specs.Outcomes.{IsPatientEvent, IsProbeKept, IsWholeRun, KeepsProbes, outcome_of_run}
 use Rattle.run_states.specs.StateLaws.{IsOutcomeMet, IsPatientStep}
 use Rattle.quiet_calls.specs.Quiet.{IsQuiet, Races, is_calm, is_reckoned}
 
@@ -36,21 +37,31 @@ pub record IsOnItsWay (next : Next) (n : ℕ) (events : List Event) : Type 0 whe
 abbrev pub AreMovesMet : Next → ℕ → (List Event → Event → Type 0) → List (List Event) → List Event → Type 0
 AreMovesMet next n IsWanted visited before =
     (rank : ℕ) (call : Call) (pick : Pick) → IsMove next n before rank call pick → IsWanted before (picked_event n before rank call pick)
-    → IsMet n visited (before ++ picked_event n before rank call pick ∷ [])
+    → IsVisited n visited (before ++ picked_event n before rank call pick ∷ [])
 
 -- what one quiet call makes of a history is
 pub record IsQuietCallMet (next : Next) (n : ℕ) (races : Races) (visited : List (List Event)) (before : List Event) : Type 0 where
   pub rank : ℕ
   pub call : Call
   pub quiet : IsQuiet next n races before rank call
-  pub met : IsMet n visited (before ++ picked_event n before rank call First ∷ [])
+  pub met : IsVisited n visited (before ++ picked_event n before rank call First ∷ [])
+
+-- histories that a search has met, and those of them that it opened
+pub record MetHistories : Type 0 where
+  pub opened : List (List Event)
+  pub visited : List (List Event)
+
+-- the histories met of these parts
+abbrev pub met_histories : List (List Event) → List (List Event) → MetHistories
+met_histories opened visited = record { opened = opened; visited = visited }
 
 -- these histories, each of them a run on its way, have met a first one, and of each of them what one quiet call makes; or else what its moves
 -- make, as far as the steps are wanted: those are opened
-pub record AreClosedQuietly (next : Next) (n : ℕ) (races : Races) (root : List Event) (IsWanted : List Event → Event → Type 0) (opened visited : List (List Event)) : Type 0 where
-  pub first : IsMet n visited root
-  pub runs : (before : List Event) → IsIn before visited → IsOnItsWay next n before
-  pub more : (before : List Event) → IsIn before visited → (IsIn before opened × AreMovesMet next n IsWanted visited before) ⊎ IsQuietCallMet next n races visited before
+pub record AreClosedQuietly (next : Next) (n : ℕ) (races : Races) (root : List Event) (IsWanted : List Event → Event → Type 0) (met : MetHistories) : Type 0 where
+  pub first : IsVisited n met.visited root
+  pub runs : (before : List Event) → IsIn before met.visited → IsOnItsWay next n before
+  pub more : (before : List Event) → IsIn before met.visited
+      → (IsIn before met.opened × AreMovesMet next n IsWanted met.visited before) ⊎ IsQuietCallMet next n races met.visited before
 
 -- the calls of these histories, and each rank's next call, are reckoned with; where no rank completes in part, none that was opened is
 -- halted by a mismatch
@@ -59,20 +70,20 @@ pub record AreReckonedWith (next : Next) (n : ℕ) (races : Races) (opened visit
   pub calls : (before : List Event) (rank : ℕ) (call : Call) → IsIn before visited → rank < n → call_after next n before rank ≡ Some call
       → is_reckoned races rank call ≡ true
   pub agreed : races.partial ≡ false → (before : List Event) (rank : ℕ) (call : Call) (pick : Pick) (second : ℕ) → IsIn before opened
-      → IsHalting next n before rank call pick (Mismatched second) → ⊥
+      → IsHalting next (moment_at n before rank) call pick (Mismatched second) → ⊥
 
 -- what each whole run from the first of such histories on comes to is what one that was opened comes to
 abbrev pub QuietCallsMissNothing : Next → Output → ℕ → Type 0
 QuietCallsMissNothing next output n =
-    (races : Races) (root more : List Event) (opened visited : List (List Event)) → AreClosedQuietly next n races root IsProbeKept opened visited
-    → AreReckonedWith next n races opened visited → IsWhole next n (root ++ more) → IsOutcomeMet next output n opened (outcome_of output n (root ++ more))
+    (races : Races) (root more : List Event) (opened visited : List (List Event)) → AreClosedQuietly next n races root IsProbeKept (met_histories opened visited)
+    → AreReckonedWith next n races opened visited → IsWholeRun next n (root ++ more) → IsOutcomeMet next output n opened (outcome_of_run output n (root ++ more))
 
 -- where patient steps alone are wanted, what each does that is patient from there on
 abbrev pub QuietCallsMissNothingPatient : Next → Output → ℕ → Type 0
 QuietCallsMissNothingPatient next output n =
     (most : ℕ) (races : Races) (root more : List Event) (opened visited : List (List Event))
-    → AreClosedQuietly next n races root (IsPatientStep most) opened visited → AreReckonedWith next n races opened visited
-    → IsWhole next n (root ++ more) → Along (IsPatientEvent most) root more → IsOutcomeMet next output n opened (outcome_of output n (root ++ more))
+    → AreClosedQuietly next n races root (IsPatientStep most) (met_histories opened visited) → AreReckonedWith next n races opened visited
+    → IsWholeRun next n (root ++ more) → Along (IsPatientEvent most) root more → IsOutcomeMet next output n opened (outcome_of_run output n (root ++ more))
 
 -- any race is reckoned with, so that the steady calls alone are quiet
 abbrev pub any_race : Races
@@ -81,12 +92,12 @@ any_race = record { ranks = λ rank. true; partial = true }
 -- then nothing is asked of the calls that ranks make
 abbrev pub SteadyCallsMissNothing : Next → Output → ℕ → Type 0
 SteadyCallsMissNothing next output n =
-    (root more : List Event) (opened visited : List (List Event)) → AreClosedQuietly next n any_race root IsProbeKept opened visited
-    → IsWhole next n (root ++ more) → IsOutcomeMet next output n opened (outcome_of output n (root ++ more))
+    (root more : List Event) (opened visited : List (List Event)) → AreClosedQuietly next n any_race root IsProbeKept (met_histories opened visited)
+    → IsWholeRun next n (root ++ more) → IsOutcomeMet next output n opened (outcome_of_run output n (root ++ more))
 
 -- nor of those that are patient
 abbrev pub SteadyCallsMissNothingPatient : Next → Output → ℕ → Type 0
 SteadyCallsMissNothingPatient next output n =
     (most : ℕ) (root more : List Event) (opened visited : List (List Event))
-    → AreClosedQuietly next n any_race root (IsPatientStep most) opened visited → IsWhole next n (root ++ more) → Along (IsPatientEvent most) root more
-    → IsOutcomeMet next output n opened (outcome_of output n (root ++ more))
+    → AreClosedQuietly next n any_race root (IsPatientStep most) (met_histories opened visited) → IsWholeRun next n (root ++ more) → Along (IsPatientEvent most) root more
+    → IsOutcomeMet next output n opened (outcome_of_run output n (root ++ more))

@@ -8,7 +8,7 @@ use Rattle.mpi_call.specs.declared.reply.Reply.TheVariants.{NotYet}
 use Rattle.mpi_call.specs.Calls.{is_enter, makes}
 use Rattle.run_model.specs.declared.event.Event.{Event}
 use Rattle.run_model.specs.Allowed.{takes_all}
-use Rattle.run_model.specs.Due.{halt_in, halted, is_full, is_mismatched}
+use Rattle.run_model.specs.Due.{halt_of_reply, halted, is_full, is_mismatched}
 use Rattle.run_model.specs.Lists.{Along}
 use Rattle.run_model.specs.Run.{IsRun}
 use Rattle.run_model.specs.Serial.{call_after}
@@ -16,8 +16,9 @@ use Rattle.run_model.specs.Views.{Next, View, view_of}
 use Rattle.picked_runs.specs.declared.turn.Pick.TheVariants.{First}
 use Rattle.picked_runs.specs.Numbering.{AreNumberedInOrder}
 use Rattle.picked_runs.specs.Picks.{picked_event, picked_reply}
+use Rattle.srr_entry.specs.Outputs.{Output}
 use Rattle.run_states.specs.Futures.{SameFuture}
-use Rattle.run_states.specs.Outcomes.{IsPatientEvent, IsProbeKept, IsWhole, Output, outcome_of}
+use Rattle.run_states.specs.Outcomes.{IsPatientEvent, IsProbeKept, IsWholeRun, outcome_of_run}
 
 -- the end of a rank, a receive from the null process, a completion of all that it lists: they pair nothing and enter nothing, and once they
 -- can be answered the answer stays
@@ -53,7 +54,7 @@ is_reckoned races rank call = (races.ranks rank || not (is_racy call)) && (races
 -- all calls are, as far as the first halt
 abbrev pub is_calm : Races → List Event → Bool
 is_calm races [] = true
-is_calm races (event ∷ events) = is_reckoned races event.rank event.call && (is_some (halt_in event.reply) || is_calm races events)
+is_calm races (event ∷ events) = is_reckoned races event.rank event.call && (is_some (halt_of_reply event.reply) || is_calm races events)
 
 -- the steady calls; receives from, and sends to, a rank that is not among the racy ones; where no rank completes in part, the Enters that make
 -- no communicator
@@ -73,7 +74,7 @@ pub record IsQuiet (next : Next) (n : ℕ) (races : Races) (before : List Event)
   pub kind : is_quiet races call ≡ true
   pub below : rank < n
   pub asked : call_after next n before rank ≡ Some call
-  pub free : halt_in (picked_reply n before rank call First) ≡ None
+  pub free : halt_of_reply (picked_reply n before rank call First) ≡ None
   pub ready : picked_reply n before rank call First ≢ NotYet
   pub probe : IsProbeKept before (picked_event n before rank call First)
 
@@ -89,14 +90,14 @@ pub record IsMadeFree (before more : List Event) (rank : ℕ) : Type 0 where
 -- what comes before the first halt
 abbrev pub before_halt : List Event → List Event
 before_halt [] = []
-before_halt (event ∷ events) = if is_some (halt_in event.reply) then [] else event ∷ before_halt events
+before_halt (event ∷ events) = if is_some (halt_of_reply event.reply) then [] else event ∷ before_halt events
 
 -- what goes on from a history goes on so behind one event more, and comes to the same: it is whole, as patient as it was, and no longer; where
 -- the event's rank made its next call in it without a halt, it is that event shorter
 pub record GoesOnBehind (next : Next) (output : Output) (n : ℕ) (root more : List Event) (first : Event) : Type 0 where
   pub rest : List Event
-  pub whole : IsWhole next n (root ++ first ∷ rest)
-  pub outcome : outcome_of output n (root ++ more) ≡ outcome_of output n (root ++ first ∷ rest)
+  pub whole : IsWholeRun next n (root ++ first ∷ rest)
+  pub outcome : outcome_of_run output n (root ++ more) ≡ outcome_of_run output n (root ++ first ∷ rest)
   pub patient : (most : ℕ) → Along (IsPatientEvent most) root more → Along (IsPatientEvent most) root (first ∷ rest)
   pub longer : length rest ≤ length more
   pub shorter : IsMadeFree root more first.rank → length rest + 1 ≡ length more
@@ -106,7 +107,7 @@ pub record GoesOnBehind (next : Next) (output : Output) (n : ℕ) (root more : L
 abbrev pub QuietCallsGoFirst : Next → Output → ℕ → Type 0
 QuietCallsGoFirst next output n =
     (races : Races) (root more : List Event) (rank : ℕ) (call : Call) → IsQuiet next n races root rank call
-    → IsWhole next n (root ++ more) → is_calm races (root ++ more) ≡ true → IsAgreed n (root ++ more) (view_of root rank) call
+    → IsWholeRun next n (root ++ more) → is_calm races (root ++ more) ≡ true → IsAgreed n (root ++ more) (view_of root rank) call
     → is_full (root ++ picked_event n root rank call First ∷ before_halt more) ≡ false
     → GoesOnBehind next output n root more (picked_event n root rank call First)
 
@@ -115,23 +116,23 @@ pub record IsMadeThere (n : ℕ) (root front rest : List Event) (first : Event) 
   pub future : SameFuture n (root ++ front) (root ++ first ∷ rest)
   pub count : length rest + 1 ≡ length front
 
--- it was not, and can be made behind: it is as if it had been made first, and what goes on behind it
-pub record IsLeftOver (next : Next) (n : ℕ) (root front rest : List Event) (rank : ℕ) (call : Call) (first : Event) : Type 0 where
+-- it was not, and its rank's call can be made behind: it is as if it had been made first, and what goes on behind it
+pub record IsLeftOver (next : Next) (n : ℕ) (root front rest : List Event) (first : Event) : Type 0 where
   pub last : Event
-  pub asked : call_after next n (root ++ front) rank ≡ Some call
-  pub made : last ≡ picked_event n (root ++ front) rank call First
+  pub asked : call_after next n (root ++ front) first.rank ≡ Some first.call
+  pub made : last ≡ picked_event n (root ++ front) first.rank first.call First
   pub reply : last.reply ≡ first.reply
   pub future : SameFuture n ((root ++ front) ++ last ∷ []) (root ++ first ∷ rest)
   pub count : length rest ≡ length front
 
 -- what goes on from a history without a halt goes on so behind one event more: it keeps its probes if the first does, and leaves the same, but for the
 -- event itself where it was not made
-pub record GoesAhead (next : Next) (n : ℕ) (root front : List Event) (rank : ℕ) (call : Call) (first : Event) : Type 0 where
+pub record GoesAhead (next : Next) (n : ℕ) (root front : List Event) (first : Event) : Type 0 where
   pub rest : List Event
   pub run : IsRun next n (root ++ first ∷ rest)
   pub numbered : AreNumberedInOrder n (root ++ first ∷ rest)
   pub probes : Along IsProbeKept root front → Along IsProbeKept root (first ∷ rest)
-  pub left : IsMadeThere n root front rest first ⊎ IsLeftOver next n root front rest rank call first
+  pub left : IsMadeThere n root front rest first ⊎ IsLeftOver next n root front rest first
 
 -- the same of runs that have not ended, as far as they go without a halt
 abbrev pub QuietCallsGoAhead : Next → ℕ → Type 0
@@ -139,4 +140,4 @@ QuietCallsGoAhead next n =
     (races : Races) (root front : List Event) (rank : ℕ) (call : Call) → IsQuiet next n races root rank call
     → IsRun next n (root ++ front) → AreNumberedInOrder n (root ++ front) → halted (root ++ front) ≡ None → is_calm races (root ++ front) ≡ true
     → IsAgreed n (root ++ front) (view_of root rank) call → is_full (root ++ picked_event n root rank call First ∷ front) ≡ false
-    → GoesAhead next n root front rank call (picked_event n root rank call First)
+    → GoesAhead next n root front (picked_event n root rank call First)

@@ -7,14 +7,14 @@ use denote.Ref.{NamedLft}
 use Rattle.std.proofs.Crossing.{crosses}
 use Rattle.c_names.proofs.kind.VariableKind.TheSendSync as kind
 use Rattle.c_program.proofs.Sharing.{expr_field, function_field, part_field, program_field, right_field, simple_field, stmt_field}
-use Rattle.c_program.specs.contracts.statement.InitDeclarator as InitDeclarator
+use Rattle.c_program.specs.contracts.statement.TypedInitDeclarator as TypedInitDeclarator
 use Rattle.c_program.proofs.state.StackMark.TheSendSync as mark
 use Rattle.rank_machine.proofs.frame.Called.TheSendSync as called
 use Rattle.mpi_call.proofs.reply.Reply.TheSendSync as reply
 use Rattle.std.proofs.option.Option.TheSendSync as option
 use Rattle.c_run_replies.proofs.question.Reached.TheSendSync as reached
 use Rattle.rank_machine.specs.contracts.frame.Code as Code
-use Rattle.rank_machine.specs.contracts.frame.Frame as Frame
+use Rattle.rank_machine.specs.contracts.frame.ContinuationFrame as ContinuationFrame
 use Rattle.rank_machine.specs.contracts.frame.Loop as Loop
 use Rattle.rank_machine.specs.contracts.going.Going as Going
 use Rattle.rank_machine.specs.contracts.rank.MachineRank as MachineRank
@@ -22,15 +22,15 @@ use Rattle.rank_machine.specs.contracts.rank.MachineRank.TheInside as Inside
 use Rattle.rank_machine.specs.contracts.stack.Stack as Stack
 use Rattle.c_run_cells.specs.contracts.state.RankState as RankState
 
-pub item_field : IsSync (InitDeclarator.the_field).row
+pub item_field : IsSync (TypedInitDeclarator.the_field).row
 item_field = search (right_field, expr_field, kind.the_field_sync, crosses, sendable) depth 60
 
 pub loop_field : (a : NamedLft) → IsSend (Loop.the_field a).row
 loop_field a = search (stmt_field, simple_field, expr_field, sendable) depth 60
 
-pub frame_field : (a : NamedLft) → IsSend (Frame.the_field a).row
+pub frame_field : (a : NamedLft) → IsSend (ContinuationFrame.the_field a).row
 frame_field a =
-    enum_send (shape (Frame.the_type a)) (
+    enum_send (shape (ContinuationFrame.the_type a)) (
       (search (stmt_field, sendable) depth 60, tt),
       (
         (search (part_field, sendable) depth 60, tt),
@@ -50,7 +50,7 @@ frame_field a =
       ),
     )
 
-pub frame_row : (a : NamedLft) → IsSend (Frame.the_row a)
+pub frame_row : (a : NamedLft) → IsSend (ContinuationFrame.the_row a)
 frame_row a = search (frame_field, sendable) depth 60
 
 pub state_field : (a : NamedLft) → IsSend (RankState.the_field a).row

@@ -5,7 +5,7 @@ ghost use Rattle.c_program.specs.Courses.{Course, ended};
 ghost use Rattle.c_program.specs.Meaning.{call_at, start};
 ghost use Rattle.c_program.specs.View.{pure_function};
 ghost use Rattle.c_run_replies.specs.declared.question.Reached.TheVariants.{Done};
-ghost use Rattle.rank_machine.specs.Frames.{IsAt, IsOpen, Stands};
+ghost use Rattle.rank_machine.specs.Frames.{IsAt, CountsOpenCalls, HasComeTo};
 ghost use Rattle.rank_machine.specs.Goings.{HasCaughtUp};
 
 use crate::frame::{Code, Target};
@@ -52,7 +52,7 @@ fn settle<'p>(
     came: Result<Reached, Fail>,
     stack: &mut Stack<'p>,
 ) -> Result<Reached, AllocError>
-    ensures at { IfOk result (λ found. (course : Course) → Stands course code.now came stack.old → IsAt course code.now found stack.new) }
+    ensures at { IfOk result (λ found. (course : Course) → HasComeTo course code.now came stack.old → IsAt course code.now found stack.new) }
     ensures stops { IfOk result (λ found. (came ≢ Ok Done) → found ≢ Done) }
 {
     match came {
@@ -73,7 +73,7 @@ pub fn catch_up<'p>(
     going: &mut Going<'p>,
 ) -> Result<(), AllocError>
     requires few { code.now.rank.ranks ≤ MOST_RANKS }
-    requires counted { IsOpen code.now going.old.stack }
+    requires counted { CountsOpenCalls code.now going.old.stack }
     requires used { going.old.used ≤ length replies.now }
     ensures { OnOk result (HasCaughtUp code.now replies.now going.old going.new) }
 {

@@ -4,11 +4,11 @@ ghost use Rattle.c_program.specs.Meaning.{invoke, right};
 ghost use Rattle.c_program.specs.State.{leave};
 ghost use Rattle.c_program.specs.View.{pure_call, pure_mpi, pure_right};
 ghost use Rattle.c_run_cells.specs.Parts.{mpi};
-ghost use Rattle.rank_machine.specs.Frames.{Ends, IsOpen, Stands, calls_in, given_to, weight, within};
+ghost use Rattle.rank_machine.specs.Frames.{EndsInnermost, CountsOpenCalls, HasComeTo, calls_in, given_to, weight, within};
 
-use crate::frame::{Called, Code, Frame, Target};
+use crate::frame::{Called, Code, ContinuationFrame, Target};
 use c_program::constants::MOST_CALLS;
-use c_program::expr::{FunctionCall, Right};
+use c_program::expr::{FunctionCall, TypedRight};
 use c_program::mpi::MpiCall;
 use c_program::state::Passed;
 use c_run_cells::fail::Fail;
@@ -23,7 +23,7 @@ use mpi_call::limits::MOST_RANKS;
 /// What stands: the places that are open, the innermost last, how many calls are open, and the state.
 #[derive(Drop)]
 pub struct Stack<'p> {
-    pub frames: Vec<Frame<'p>>,
+    pub frames: Vec<ContinuationFrame<'p>>,
     pub opens: u32,
     pub state: RankState<'p>,
 }
@@ -33,8 +33,8 @@ impl<'p> Stack<'p> {
 
     /// Gives a value to where it goes.
     pub fn give(&mut self, code: &Code<'p>, target: Target, value: i32) -> Result<Reached, Fail>
-        requires { IsOpen code.now self.old }
-        ensures stands { Stands (given_to target (within code.now self.old.frames.items).exits value self.old.state) code.now result self.new }
+        requires { CountsOpenCalls code.now self.old }
+        ensures stands { HasComeTo (given_to target (within code.now self.old.frames.items).exits value self.old.state) code.now result self.new }
         ensures fewer { OnOk result (weight self.new ≤ weight self.old) }
     {
         match target {
@@ -49,8 +49,8 @@ impl<'p> Stack<'p> {
 
     /// Comes back from the innermost call that is open.
     pub fn give_back(&mut self, code: &Code<'p>, value: i32) -> Result<Reached, Fail>
-        requires { IsOpen code.now self.old }
-        ensures stands { Stands ((within code.now self.old.frames.items).exits.back value self.old.state) code.now result self.new }
+        requires { CountsOpenCalls code.now self.old }
+        ensures stands { HasComeTo ((within code.now self.old.frames.items).exits.back value self.old.state) code.now result self.new }
         ensures fewer { OnOk result (weight self.new ≤ weight self.old) }
     {
         match self.pop_call(code) {
@@ -67,7 +67,7 @@ impl<'p> Stack<'p> {
         value: i32,
     ) -> Result<Reached, Fail>
         requires { self.old.opens ≡ suc (within code.now self.old.frames.items).opens }
-        ensures stands { Stands (given_to called.target (within code.now self.old.frames.items).exits value (leave called.mark self.old.state)) code.now result self.new }
+        ensures stands { HasComeTo (given_to called.target (within code.now self.old.frames.items).exits value (leave called.mark self.old.state)) code.now result self.new }
         ensures fewer { OnOk result (weight self.new ≤ weight self.old) }
     {
         let mut last = called;
@@ -90,13 +90,13 @@ impl<'p> Stack<'p> {
 
     /// Takes places from the stack, up to the innermost call; blocks end.
     fn pop_call(&mut self, code: &Code<'p>) -> Option<Called>
-        requires { IsOpen code.now self.old }
-        ensures { Ends code.now self.old self.new result }
+        requires { CountsOpenCalls code.now self.old }
+        ensures { EndsInnermost code.now self.old self.new result }
     {
         while let Some(frame) = self.frames.pop() {
             match frame {
-                Frame::Called(called) => return Some(called),
-                Frame::Block(mark) => self.state.leave(mark),
+                ContinuationFrame::Called(called) => return Some(called),
+                ContinuationFrame::Block(mark) => self.state.leave(mark),
                 _ => {}
             }
         }
@@ -107,15 +107,15 @@ impl<'p> Stack<'p> {
 
     /// Goes on behind the innermost loop.
     pub fn break_out(&mut self, code: &Code<'p>) -> Result<Reached, Fail>
-        requires { IsOpen code.now self.old }
-        ensures stands { Stands ((within code.now self.old.frames.items).exits.broke self.old.state) code.now result self.new }
+        requires { CountsOpenCalls code.now self.old }
+        ensures stands { HasComeTo ((within code.now self.old.frames.items).exits.broke self.old.state) code.now result self.new }
         ensures fewer { OnOk result (weight self.new ≤ weight self.old) }
     {
         while let Some(frame) = self.frames.pop() {
             match frame {
-                Frame::Repeat(_) => return Ok(Reached::Done),
-                Frame::Block(mark) => self.state.leave(mark),
-                Frame::Called(called) => return self.come_back(code, called, 0),
+                ContinuationFrame::Repeat(_) => return Ok(Reached::Done),
+                ContinuationFrame::Block(mark) => self.state.leave(mark),
+                ContinuationFrame::Called(called) => return self.come_back(code, called, 0),
                 _ => {}
             }
         }
@@ -124,18 +124,18 @@ impl<'p> Stack<'p> {
 
     /// Goes on with what follows on a turn of the innermost loop, which is then the innermost place.
     pub fn go_again(&mut self, code: &Code<'p>) -> Result<Reached, Fail>
-        requires { IsOpen code.now self.old }
-        ensures stands { Stands ((within code.now self.old.frames.items).exits.again self.old.state) code.now result self.new }
+        requires { CountsOpenCalls code.now self.old }
+        ensures stands { HasComeTo ((within code.now self.old.frames.items).exits.again self.old.state) code.now result self.new }
         ensures fewer { OnOk result (weight self.new ≤ weight self.old) }
     {
         while let Some(frame) = self.frames.pop() {
             match frame {
-                Frame::Turn(update) => {
-                    self.frames.push(Frame::Turn(update))?;
+                ContinuationFrame::Turn(update) => {
+                    self.frames.push(ContinuationFrame::Turn(update))?;
                     return Ok(Reached::Done);
                 }
-                Frame::Block(mark) => self.state.leave(mark),
-                Frame::Called(called) => return self.come_back(code, called, 0),
+                ContinuationFrame::Block(mark) => self.state.leave(mark),
+                ContinuationFrame::Called(called) => return self.come_back(code, called, 0),
                 _ => {}
             }
         }
@@ -151,8 +151,8 @@ impl<'p> Stack<'p> {
         call: &'p FunctionCall,
         target: Target,
     ) -> Result<Reached, Fail>
-        requires { IsOpen code.now self.old }
-        ensures stands { Stands (invoke (calls_in code.now self.old.opens) (pure_call call.now) self.old.state (given_to target (within code.now self.old.frames.items).exits)) code.now result self.new }
+        requires { CountsOpenCalls code.now self.old }
+        ensures stands { HasComeTo (invoke (calls_in code.now self.old.opens) (pure_call call.now) self.old.state (given_to target (within code.now self.old.frames.items).exits)) code.now result self.new }
         ensures fewer { OnOk result (weight self.new + 6 ≤ weight self.old) }
     {
         take_step(&mut self.state)?;
@@ -168,8 +168,8 @@ impl<'p> Stack<'p> {
         arguments: &[Passed],
         target: Target,
     ) -> Result<Reached, Fail>
-        requires { IsOpen code.now self.old }
-        ensures stands { Stands (calls_in code.now self.old.opens number arguments.now self.old.state (given_to target (within code.now self.old.frames.items).exits)) code.now result self.new }
+        requires { CountsOpenCalls code.now self.old }
+        ensures stands { HasComeTo (calls_in code.now self.old.opens number arguments.now self.old.state (given_to target (within code.now self.old.frames.items).exits)) code.now result self.new }
         ensures fewer { OnOk result (weight self.new ≤ weight self.old + 2) }
     {
         if self.opens >= MOST_CALLS {
@@ -180,8 +180,9 @@ impl<'p> Stack<'p> {
         };
         let mark = self.state.mark();
         enter(function, arguments, &mut self.state)?;
-        self.frames.push(Frame::Called(Called { mark, target }))?;
-        self.frames.push(Frame::Rest(&function.body))?;
+        self.frames
+            .push(ContinuationFrame::Called(Called { mark, target }))?;
+        self.frames.push(ContinuationFrame::Rest(&function.body))?;
         self.opens += 1;
         Ok(Reached::Done)
     }
@@ -190,27 +191,27 @@ impl<'p> Stack<'p> {
     pub fn right(
         &mut self,
         code: &Code<'p>,
-        one: &'p Right,
+        one: &'p TypedRight,
         target: Target,
     ) -> Result<Reached, Fail>
-        requires { IsOpen code.now self.old }
-        ensures stands { Stands (right (calls_in code.now self.old.opens) (pure_right one.now) self.old.state (given_to target (within code.now self.old.frames.items).exits)) code.now result self.new }
+        requires { CountsOpenCalls code.now self.old }
+        ensures stands { HasComeTo (right (calls_in code.now self.old.opens) (pure_right one.now) self.old.state (given_to target (within code.now self.old.frames.items).exits)) code.now result self.new }
         ensures fewer { OnOk result (weight self.new ≤ weight self.old) }
     {
         match one {
-            Right::Value(expression) => {
+            TypedRight::Value(expression) => {
                 let value = self.state.value(expression)?;
                 self.give(code, target, value)
             }
-            Right::Call(call) => self.invoke(code, call, target),
+            TypedRight::Call(call) => self.invoke(code, call, target),
         }
     }
 
     /// A call of an MPI function.
     pub fn call_mpi(&mut self, code: &Code<'p>, call: &MpiCall) -> Result<Reached, Fail>
-        requires counted { IsOpen code.now self.old }
+        requires counted { CountsOpenCalls code.now self.old }
         requires few { code.now.rank.ranks ≤ MOST_RANKS }
-        ensures stands { Stands (mpi code.now.rank (pure_mpi call.now) self.old.state (within code.now self.old.frames.items).exits.next) code.now result self.new }
+        ensures stands { HasComeTo (mpi code.now.rank (pure_mpi call.now) self.old.state (within code.now self.old.frames.items).exits.next) code.now result self.new }
         ensures fewer { OnOk result (weight self.new ≤ weight self.old) }
     {
         let effect = effect_of(code.rank, call, &self.state)?;

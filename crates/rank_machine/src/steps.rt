@@ -1,15 +1,17 @@
 //! Statements: what each does at once, and what it opens.
 ghost use Rattle.std.specs.Prelude.{◌≡◌, ◌≢◌, ◌≤◌, ◌<◌, ◌+◌, ◌*◌, OnOk, IfOk, map, option_copied, option_map};
-ghost use Rattle.c_program.specs.Meaning.{act, act_part, declare, declare_all, for_update, loop_after, return, simple, started, test, trying};
+ghost use Rattle.c_program.specs.Meaning.{act, act_part, declare_variable, declare_all, for_update, loop_after, return, simple, started, test, trying};
 ghost use Rattle.c_program.specs.View.{pure_call, pure_expr, pure_initial, pure_item, pure_part, pure_right, pure_simple, pure_start, pure_stmt};
 ghost use Rattle.c_run_replies.specs.declared.question.Reached.TheVariants.{Done};
-ghost use Rattle.c_run_cells.specs.Comes.{Does};
-ghost use Rattle.rank_machine.specs.Frames.{IsOpen, Stands, begun_value, call_in, calls_in, chosen, for_of, looping, turns_at, weight, within};
+ghost use Rattle.c_run_cells.specs.Comes.{ComesOut};
+ghost use Rattle.rank_machine.specs.Frames.{CountsOpenCalls, HasComeTo, begun_value, initial_call, calls_in, if_statement, for_statement, looping, turns_at, weight, within};
 
-use crate::frame::{Code, Frame, Loop, Target};
+use crate::frame::{Code, ContinuationFrame, Loop, Target};
 use crate::stack::Stack;
-use c_program::expr::{Expr, FunctionCall, Right};
-use c_program::statement::{ForStart, InitDeclarator, Initializer, Part, Simple, Stmt};
+use c_program::expr::{FunctionCall, TypedExpr, TypedRight};
+use c_program::statement::{
+    TypedForStart, TypedInitDeclarator, TypedInitializer, TypedPart, TypedSimple, TypedStmt,
+};
 use c_run_cells::fail::Fail;
 use c_run_cells::parts::{add, print, put_values_of, take_step};
 use c_run_cells::state::RankState;
@@ -19,14 +21,14 @@ use mpi_call::limits::MOST_RANKS;
 
 impl<'p> Stack<'p> {
     /// A statement that stands before a `;`.
-    fn simple(&mut self, code: &Code<'p>, one: &'p Simple) -> Result<Reached, Fail>
-        requires counted { IsOpen code.now self.old }
+    fn simple(&mut self, code: &Code<'p>, one: &'p TypedSimple) -> Result<Reached, Fail>
+        requires counted { CountsOpenCalls code.now self.old }
         requires few { code.now.rank.ranks ≤ MOST_RANKS }
-        ensures stands { Stands (simple code.now.rank (calls_in code.now self.old.opens) (pure_simple one.now) self.old.state (within code.now self.old.frames.items).exits.next) code.now result self.new }
+        ensures stands { HasComeTo (simple code.now.rank (calls_in code.now self.old.opens) (pure_simple one.now) self.old.state (within code.now self.old.frames.items).exits.next) code.now result self.new }
         ensures fewer { OnOk result (weight self.new ≤ weight self.old) }
     {
         match one {
-            Simple::Set { place, right } => {
+            TypedSimple::Set { place, right } => {
                 let cell = self.state.cell_of(place)?;
                 self.right(
                     code,
@@ -37,7 +39,7 @@ impl<'p> Stack<'p> {
                     },
                 )
             }
-            Simple::Update {
+            TypedSimple::Update {
                 place,
                 operator,
                 right,
@@ -52,21 +54,21 @@ impl<'p> Stack<'p> {
                     },
                 )
             }
-            Simple::Call(call) => self.invoke(code, call, Target::Nowhere),
-            Simple::Mpi(call) => self.call_mpi(code, call),
-            Simple::Print { format, arguments } => {
+            TypedSimple::Call(call) => self.invoke(code, call, Target::Nowhere),
+            TypedSimple::Mpi(call) => self.call_mpi(code, call),
+            TypedSimple::Print { format, arguments } => {
                 print(code.alloc, format, arguments, &mut self.state)?;
                 Ok(Reached::Done)
             }
-            Simple::Flush => Ok(Reached::Done),
+            TypedSimple::Flush => Ok(Reached::Done),
         }
     }
 
     /// What stands behind the second `;` of a `for`.
-    fn update(&mut self, code: &Code<'p>, update: Option<&'p Simple>) -> Result<Reached, Fail>
-        requires counted { IsOpen code.now self.old }
+    fn update(&mut self, code: &Code<'p>, update: Option<&'p TypedSimple>) -> Result<Reached, Fail>
+        requires counted { CountsOpenCalls code.now self.old }
         requires few { code.now.rank.ranks ≤ MOST_RANKS }
-        ensures stands { Stands (for_update code.now.rank (calls_in code.now self.old.opens) (option_map pure_simple (option_copied update.entry)) self.old.state (within code.now self.old.frames.items).exits.next) code.now result self.new }
+        ensures stands { HasComeTo (for_update code.now.rank (calls_in code.now self.old.opens) (option_map pure_simple (option_copied update.entry)) self.old.state (within code.now self.old.frames.items).exits.next) code.now result self.new }
         ensures fewer { OnOk result (weight self.new ≤ weight self.old) }
     {
         match update {
@@ -76,15 +78,19 @@ impl<'p> Stack<'p> {
     }
 
     /// Variables, in order; those behind a call stay open.
-    fn declare_all(&mut self, code: &Code<'p>, items: &'p [InitDeclarator]) -> Result<Reached, Fail>
-        requires { IsOpen code.now self.old }
-        ensures stands { Stands (declare_all (calls_in code.now self.old.opens) (map pure_item items.now) self.old.state (within code.now self.old.frames.items).exits.next) code.now result self.new }
+    fn declare_all(
+        &mut self,
+        code: &Code<'p>,
+        items: &'p [TypedInitDeclarator],
+    ) -> Result<Reached, Fail>
+        requires { CountsOpenCalls code.now self.old }
+        ensures stands { HasComeTo (declare_all (calls_in code.now self.old.opens) (map pure_item items.now) self.old.state (within code.now self.old.frames.items).exits.next) code.now result self.new }
         ensures fewer { OnOk result (weight self.new ≤ weight self.old) }
     {
         for (i, item) in items.iter().enumerate() {
             let cell = add(item, &mut self.state)?;
             if let Some(call) = call_in(&item.initial) {
-                self.frames.push(Frame::Items(&items[i + 1..]))?;
+                self.frames.push(ContinuationFrame::Items(&items[i + 1..]))?;
                 return self.invoke(
                     code,
                     call,
@@ -100,9 +106,13 @@ impl<'p> Stack<'p> {
     }
 
     /// A `return`.
-    fn run_return(&mut self, code: &Code<'p>, value: &'p Option<Right>) -> Result<Reached, Fail>
-        requires { IsOpen code.now self.old }
-        ensures stands { Stands (return (calls_in code.now self.old.opens) (option_map pure_right value.now) self.old.state (within code.now self.old.frames.items).exits) code.now result self.new }
+    fn run_return(
+        &mut self,
+        code: &Code<'p>,
+        value: &'p Option<TypedRight>,
+    ) -> Result<Reached, Fail>
+        requires { CountsOpenCalls code.now self.old }
+        ensures stands { HasComeTo (return (calls_in code.now self.old.opens) (option_map pure_right value.now) self.old.state (within code.now self.old.frames.items).exits) code.now result self.new }
         ensures fewer { OnOk result (weight self.new ≤ weight self.old) }
     {
         match value {
@@ -115,22 +125,22 @@ impl<'p> Stack<'p> {
     fn run_if(
         &mut self,
         code: &Code<'p>,
-        test: &'p Expr,
-        then: &'p Stmt,
-        other: Option<&'p Stmt>,
+        test: &'p TypedExpr,
+        then: &'p TypedStmt,
+        other: Option<&'p TypedStmt>,
     ) -> Result<Reached, Fail>
-        requires { IsOpen code.now self.old }
-        ensures stands { Stands (chosen code.now.rank (calls_in code.now self.old.opens) (pure_expr test.now) (pure_stmt then.now) (option_map pure_stmt (option_copied other.entry)) self.old.state (within code.now self.old.frames.items).exits) code.now result self.new }
+        requires { CountsOpenCalls code.now self.old }
+        ensures stands { HasComeTo (if_statement code.now.rank (calls_in code.now self.old.opens) (pure_expr test.now) (pure_stmt then.now) (option_map pure_stmt (option_copied other.entry)) self.old.state (within code.now self.old.frames.items).exits) code.now result self.new }
         ensures fewer { OnOk result (weight self.new ≤ weight self.old + 1) }
     {
         if self.state.test(Some(test))? {
-            self.frames.push(Frame::One(then))?;
+            self.frames.push(ContinuationFrame::One(then))?;
             return Ok(Reached::Done);
         }
         let Some(stmt) = other else {
             return Ok(Reached::Done);
         };
-        self.frames.push(Frame::One(stmt))?;
+        self.frames.push(ContinuationFrame::One(stmt))?;
         Ok(Reached::Done)
     }
 
@@ -138,67 +148,74 @@ impl<'p> Stack<'p> {
     fn run_for(
         &mut self,
         code: &Code<'p>,
-        start: &'p ForStart,
+        start: &'p TypedForStart,
         around: Loop<'p>,
     ) -> Result<Reached, Fail>
-        requires counted { IsOpen code.now self.old }
+        requires counted { CountsOpenCalls code.now self.old }
         requires few { code.now.rank.ranks ≤ MOST_RANKS }
-        ensures stands { Stands (for_of code.now self.old.opens (pure_start start.now) around.entry self.old.state (within code.now self.old.frames.items).exits) code.now result self.new }
+        ensures stands { HasComeTo (for_statement code.now self.old.opens (pure_start start.now) around.entry self.old.state (within code.now self.old.frames.items).exits) code.now result self.new }
         ensures fewer { OnOk result (weight self.new ≤ weight self.old + 2) }
     {
-        self.frames.push(Frame::Block(self.state.mark()))?;
-        self.frames.push(Frame::Repeat(around))?;
+        self.frames
+            .push(ContinuationFrame::Block(self.state.mark()))?;
+        self.frames.push(ContinuationFrame::Repeat(around))?;
         match start {
-            ForStart::Nothing => Ok(Reached::Done),
-            ForStart::Declaration(declaration) => {
+            TypedForStart::Nothing => Ok(Reached::Done),
+            TypedForStart::Declaration(declaration) => {
                 take_step(&mut self.state)?;
                 self.declare_all(code, &declaration.items)
             }
-            ForStart::Simple(one) => self.simple(code, one),
+            TypedForStart::Simple(one) => self.simple(code, one),
         }
     }
 
     /// A loop with a turn before its first test.
-    fn run_do(&mut self, code: &Code<'p>, test: &'p Expr, body: &'p Stmt) -> Result<Reached, Fail>
-        requires { IsOpen code.now self.old }
-        ensures stands { Stands (loop_after (pure_expr test.now) (started (act code.now.rank (calls_in code.now self.old.opens) (pure_stmt body.now))) self.old.state (within code.now self.old.frames.items).exits) code.now result self.new }
+    fn run_do(
+        &mut self,
+        code: &Code<'p>,
+        test: &'p TypedExpr,
+        body: &'p TypedStmt,
+    ) -> Result<Reached, Fail>
+        requires { CountsOpenCalls code.now self.old }
+        ensures stands { HasComeTo (loop_after (pure_expr test.now) (started (act code.now.rank (calls_in code.now self.old.opens) (pure_stmt body.now))) self.old.state (within code.now self.old.frames.items).exits) code.now result self.new }
         ensures fewer { OnOk result (weight self.new ≤ weight self.old) }
     {
         take_step(&mut self.state)?;
-        self.frames.push(Frame::Repeat(Loop {
+        self.frames.push(ContinuationFrame::Repeat(Loop {
             test: Some(test),
             update: None,
             body,
             turns: None,
         }))?;
-        self.frames.push(Frame::Turn(None))?;
-        self.frames.push(Frame::One(body))?;
+        self.frames.push(ContinuationFrame::Turn(None))?;
+        self.frames.push(ContinuationFrame::One(body))?;
         Ok(Reached::Done)
     }
 
     /// A statement whose step is taken.
     #[tactic(auto, using(c_program::proofs::StmtViewed::stmt_views))]
-    fn act(&mut self, code: &Code<'p>, stmt: &'p Stmt) -> Result<Reached, Fail>
-        requires counted { IsOpen code.now self.old }
+    fn act(&mut self, code: &Code<'p>, stmt: &'p TypedStmt) -> Result<Reached, Fail>
+        requires counted { CountsOpenCalls code.now self.old }
         requires few { code.now.rank.ranks ≤ MOST_RANKS }
-        ensures stands { Stands (act code.now.rank (calls_in code.now self.old.opens) (pure_stmt stmt.now) self.old.state (within code.now self.old.frames.items).exits) code.now result self.new }
+        ensures stands { HasComeTo (act code.now.rank (calls_in code.now self.old.opens) (pure_stmt stmt.now) self.old.state (within code.now self.old.frames.items).exits) code.now result self.new }
         ensures fewer { OnOk result (weight self.new ≤ weight self.old + 2) }
     {
         match stmt {
-            Stmt::Block(parts) => {
-                self.frames.push(Frame::Block(self.state.mark()))?;
-                self.frames.push(Frame::Rest(parts))?;
+            TypedStmt::Block(parts) => {
+                self.frames
+                    .push(ContinuationFrame::Block(self.state.mark()))?;
+                self.frames.push(ContinuationFrame::Rest(parts))?;
                 Ok(Reached::Done)
             }
-            Stmt::Empty => Ok(Reached::Done),
-            Stmt::Simple(one) => self.simple(code, one),
-            Stmt::Break => self.break_out(code),
-            Stmt::Continue => self.go_again(code),
-            Stmt::Return(value) => self.run_return(code, value),
-            Stmt::If { test, then } => self.run_if(code, test, then, None),
-            Stmt::IfElse { test, then, other } => self.run_if(code, test, then, Some(other)),
-            Stmt::While { test, body } => {
-                self.frames.push(Frame::Repeat(Loop {
+            TypedStmt::Empty => Ok(Reached::Done),
+            TypedStmt::Simple(one) => self.simple(code, one),
+            TypedStmt::Break => self.break_out(code),
+            TypedStmt::Continue => self.go_again(code),
+            TypedStmt::Return(value) => self.run_return(code, value),
+            TypedStmt::If { test, then } => self.run_if(code, test, then, None),
+            TypedStmt::IfElse { test, then, other } => self.run_if(code, test, then, Some(other)),
+            TypedStmt::While { test, body } => {
+                self.frames.push(ContinuationFrame::Repeat(Loop {
                     test: Some(test),
                     update: None,
                     body,
@@ -206,8 +223,8 @@ impl<'p> Stack<'p> {
                 }))?;
                 Ok(Reached::Done)
             }
-            Stmt::Do { body, test } => self.run_do(code, test, body),
-            Stmt::For {
+            TypedStmt::Do { body, test } => self.run_do(code, test, body),
+            TypedStmt::For {
                 start,
                 test,
                 step,
@@ -227,24 +244,24 @@ impl<'p> Stack<'p> {
 
     /// What stands in a block, which takes a step.
     #[tactic(auto, using(c_program::proofs::StmtViewed::stmt_views))]
-    fn part(&mut self, code: &Code<'p>, part: &'p Part) -> Result<Reached, Fail>
-        requires counted { IsOpen code.now self.old }
+    fn part(&mut self, code: &Code<'p>, part: &'p TypedPart) -> Result<Reached, Fail>
+        requires counted { CountsOpenCalls code.now self.old }
         requires few { code.now.rank.ranks ≤ MOST_RANKS }
-        ensures stands { Stands (started (act_part code.now.rank (calls_in code.now self.old.opens) (pure_part part.now)) self.old.state (within code.now self.old.frames.items).exits) code.now result self.new }
+        ensures stands { HasComeTo (started (act_part code.now.rank (calls_in code.now self.old.opens) (pure_part part.now)) self.old.state (within code.now self.old.frames.items).exits) code.now result self.new }
         ensures fewer { OnOk result (weight self.new + 6 ≤ weight self.old) }
     {
         take_step(&mut self.state)?;
         match part {
-            Part::Declaration(declaration) => self.declare_all(code, &declaration.items),
-            Part::Stmt(stmt) => self.act(code, stmt),
+            TypedPart::Declaration(declaration) => self.declare_all(code, &declaration.items),
+            TypedPart::Stmt(stmt) => self.act(code, stmt),
         }
     }
 
     /// A statement, which takes a step.
-    fn statement(&mut self, code: &Code<'p>, stmt: &'p Stmt) -> Result<Reached, Fail>
-        requires counted { IsOpen code.now self.old }
+    fn statement(&mut self, code: &Code<'p>, stmt: &'p TypedStmt) -> Result<Reached, Fail>
+        requires counted { CountsOpenCalls code.now self.old }
         requires few { code.now.rank.ranks ≤ MOST_RANKS }
-        ensures stands { Stands (started (act code.now.rank (calls_in code.now self.old.opens) (pure_stmt stmt.now)) self.old.state (within code.now self.old.frames.items).exits) code.now result self.new }
+        ensures stands { HasComeTo (started (act code.now.rank (calls_in code.now self.old.opens) (pure_stmt stmt.now)) self.old.state (within code.now self.old.frames.items).exits) code.now result self.new }
         ensures fewer { OnOk result (weight self.new + 6 ≤ weight self.old) }
     {
         take_step(&mut self.state)?;
@@ -253,8 +270,8 @@ impl<'p> Stack<'p> {
 
     /// The test of a loop, and its next turn.
     fn repeat(&mut self, code: &Code<'p>, around: Loop<'p>) -> Result<Reached, Fail>
-        requires { IsOpen code.now self.old }
-        ensures stands { Stands (looping code.now self.old.opens around.entry self.old.state (within code.now self.old.frames.items).exits) code.now result self.new }
+        requires { CountsOpenCalls code.now self.old }
+        ensures stands { HasComeTo (looping code.now self.old.opens around.entry self.old.state (within code.now self.old.frames.items).exits) code.now result self.new }
         ensures fewer { OnOk result (weight self.new ≤ weight self.old) }
     {
         let turns = turns_at(around.turns, &self.state);
@@ -265,50 +282,50 @@ impl<'p> Stack<'p> {
             return Ok(Reached::Done);
         }
         take_step(&mut self.state)?;
-        self.frames.push(Frame::Repeat(Loop {
+        self.frames.push(ContinuationFrame::Repeat(Loop {
             test: around.test,
             update: around.update,
             body: around.body,
             turns: Some(turns - 1),
         }))?;
-        self.frames.push(Frame::Turn(around.update))?;
-        self.frames.push(Frame::One(around.body))?;
+        self.frames.push(ContinuationFrame::Turn(around.update))?;
+        self.frames.push(ContinuationFrame::One(around.body))?;
         Ok(Reached::Done)
     }
 
     /// What follows when the innermost place is done.
     fn resume(&mut self, code: &Code<'p>) -> Result<Reached, Fail>
-        requires counted { IsOpen code.now self.old }
+        requires counted { CountsOpenCalls code.now self.old }
         requires few { code.now.rank.ranks ≤ MOST_RANKS }
-        ensures stands { Stands ((within code.now self.old.frames.items).exits.next self.old.state) code.now result self.new }
+        ensures stands { HasComeTo ((within code.now self.old.frames.items).exits.next self.old.state) code.now result self.new }
         ensures fewer { IfOk result (λ found. found ≡ Done → weight self.new < weight self.old) }
     {
         let Some(frame) = self.frames.pop() else {
             return Ok(Reached::Asks(Question::End));
         };
         match frame {
-            Frame::One(stmt) => self.statement(code, stmt),
-            Frame::Rest([]) => Ok(Reached::Done),
-            Frame::Rest([first, rest @ ..]) => {
-                self.frames.push(Frame::Rest(rest))?;
+            ContinuationFrame::One(stmt) => self.statement(code, stmt),
+            ContinuationFrame::Rest([]) => Ok(Reached::Done),
+            ContinuationFrame::Rest([first, rest @ ..]) => {
+                self.frames.push(ContinuationFrame::Rest(rest))?;
                 self.part(code, first)
             }
-            Frame::Items(items) => self.declare_all(code, items),
-            Frame::Block(mark) => {
+            ContinuationFrame::Items(items) => self.declare_all(code, items),
+            ContinuationFrame::Block(mark) => {
                 self.state.leave(mark);
                 Ok(Reached::Done)
             }
-            Frame::Repeat(around) => self.repeat(code, around),
-            Frame::Turn(update) => self.update(code, update),
-            Frame::Called(called) => self.come_back(code, called, 0),
+            ContinuationFrame::Repeat(around) => self.repeat(code, around),
+            ContinuationFrame::Turn(update) => self.update(code, update),
+            ContinuationFrame::Called(called) => self.come_back(code, called, 0),
         }
     }
 
     /// Goes on until the rank asks or has ended.
     pub fn run(&mut self, code: &Code<'p>) -> Result<Reached, Fail>
-        requires counted { IsOpen code.now self.old }
+        requires counted { CountsOpenCalls code.now self.old }
         requires few { code.now.rank.ranks ≤ MOST_RANKS }
-        ensures stands { Stands ((within code.now self.old.frames.items).exits.next self.old.state) code.now result self.new }
+        ensures stands { HasComeTo ((within code.now self.old.frames.items).exits.next self.old.state) code.now result self.new }
         ensures stops { IfOk result (λ found. found ≢ Done) }
     {
         loop {
@@ -321,17 +338,17 @@ impl<'p> Stack<'p> {
 }
 
 /// Begins a variable; what a call gives comes later.
-fn begin_value(initial: &Initializer, cell: u32, state: &mut RankState) -> Result<(), Fail>
-    ensures { Does (begun_value (pure_initial initial.now) cell) state.old result state.new }
+fn begin_value(initial: &TypedInitializer, cell: u32, state: &mut RankState) -> Result<(), Fail>
+    ensures { ComesOut (begun_value (pure_initial initial.now) cell) state.old result state.new }
 {
     match initial {
-        Initializer::Nothing | Initializer::Right(Right::Call(_)) => Ok(()),
-        Initializer::Right(Right::Value(expression)) => {
+        TypedInitializer::Nothing | TypedInitializer::Right(TypedRight::Call(_)) => Ok(()),
+        TypedInitializer::Right(TypedRight::Value(expression)) => {
             let value = state.value(expression)?;
             state.put(cell, value);
             Ok(())
         }
-        Initializer::Values(expressions) => put_values_of(expressions, cell, state),
+        TypedInitializer::Values(expressions) => put_values_of(expressions, cell, state),
     }
 }
 
@@ -346,11 +363,11 @@ fn turns_at(turns: Option<u64>, state: &RankState) -> u64
 }
 
 /// The call whose value a variable begins with.
-fn call_in(initial: &Initializer) -> Option<&FunctionCall>
-    ensures { option_map pure_call (option_copied result) ≡ call_in (pure_initial initial.now) }
+fn call_in(initial: &TypedInitializer) -> Option<&FunctionCall>
+    ensures { option_map pure_call (option_copied result) ≡ initial_call (pure_initial initial.now) }
 {
     match initial {
-        Initializer::Right(Right::Call(call)) => Some(call),
+        TypedInitializer::Right(TypedRight::Call(call)) => Some(call),
         _ => None,
     }
 }

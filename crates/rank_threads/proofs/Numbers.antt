@@ -7,8 +7,8 @@ use Rattle.run_model.specs.Views.{replies_in, view_of}
 use Rattle.run_model.proofs.Views.{test_cases}
 use Rattle.srr_replay.proofs.RoundsLemmas.{distinct_at, member_of}
 use Rattle.turn_lock.specs.Entries.{entries_of}
-use Rattle.rank_threads.specs.Reading.{Reading, AddsReply, replies_of}
-use Rattle.rank_threads.specs.Numbered.{AddsEvent, numbered, place_in}
+use Rattle.rank_threads.specs.inside.Reading.{FrameReading, AddsReply, replies_of}
+use Rattle.rank_threads.specs.inside.Numbered.{AddsEvent, numbered, place_in}
 use Rattle.rank_threads.specs.declared.attempts.Attempt.{Attempt}
 use Rattle.rank_threads.specs.declared.attempts.Attempt.TheVariants.{Replied, Waits, Stops, Short}
 
@@ -16,7 +16,7 @@ use Rattle.rank_threads.specs.declared.attempts.Attempt.TheVariants.{Replied, Wa
 abbrev pub IsSeatOf : (ℕ → ℕ) → ℕ → Type 0
 IsSeatOf seat rank = (r : ℕ) → (seat r == seat rank) ≡ (r == rank)
 
-module _ {P F : Type 0} (reading : Reading P Event F) (plain : (e : Event) → reading.reply e ≡ e.reply) (seat : ℕ → ℕ) (rank : ℕ) where
+module _ {P F : Type 0} (reading : FrameReading P Event F) (plain : (e : Event) → reading.reply e ≡ e.reply) (seat : ℕ → ℕ) (rank : ℕ) where
   -- a seat's own entries give the replies of its rank
   pub replies_of_own : IsSeatOf seat rank → (events : List Event) → replies_of reading (entries_of (seat rank) (numbered seat events)) ≡ replies_in (view_of events rank)
   replies_of_own alone [] = refl

@@ -8,9 +8,9 @@ use Rattle.replay_model.specs.Replays.{Breakpoint}
 use Rattle.srr_record.specs.Recordings.{AreRuns}
 use Rattle.srr_replay.specs.Rounds.{RunAll}
 use Rattle.srr_replay.proofs.RoundsLemmas.{member_of}
-use Rattle.rank_threads.specs.Readings.{machine_reading, replay_reading}
-use Rattle.rank_threads.specs.Numbered.{numbered, place_in}
-use Rattle.rank_threads.specs.Workers.{AreRunsAfter}
+use Rattle.rank_threads.specs.inside.Readings.{machine_reading, replay_reading}
+use Rattle.rank_threads.specs.inside.Numbered.{numbered, place_in}
+use Rattle.rank_threads.specs.inside.Workers.{AreRunsAfter}
 use Rattle.rank_threads.proofs.Numbers.{replies_of_own, place_alone, place_at}
 
 module _ {P R : Type 0} (standing : R → Standing P) where

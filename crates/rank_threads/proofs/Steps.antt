@@ -6,13 +6,13 @@ use Rattle.mpi_call.specs.declared.reply.Reply.{Reply}
 use Rattle.run_model.specs.Program.{Standing, MayGive}
 use Rattle.run_model.specs.Views.{Next}
 use Rattle.turn_lock.specs.Seat.{LockView, SeatView, HasFrame}
-use Rattle.rank_threads.specs.Reading.{Reading, AddsReply, replies_of, program_of, ranks_of}
-use Rattle.rank_threads.specs.Workers.{CanWork, IsNextCall, IsReady, IsRunAfter, MayGiveTo}
+use Rattle.rank_threads.specs.inside.Reading.{FrameReading, AddsReply, replies_of, program_of, ranks_of}
+use Rattle.rank_threads.specs.inside.Workers.{CanWork, IsNextCall, IsIdleSeatOf, IsRunAfter, MayGiveTo}
 use Rattle.rank_threads.specs.declared.attempts.Attempt.{Attempt}
 use Rattle.rank_threads.specs.declared.attempts.Attempt.TheVariants.{Replied, Waits, Stops, Short}
 use Rattle.rank_threads.specs.declared.worker.Worker.{Worker}
 
-module _ {P E F : Type 0} (reading : Reading P E F) where
+module _ {P E F : Type 0} (reading : FrameReading P E F) where
   -- an answer that is no reply
   pub no_reply : (k : ℕ) (before after : List (ℕ × E)) (answer : Attempt) → ((reply : Reply) → answer ≡ Replied reply → ⊥) → AddsReply reading k before after answer → after ≡ before
   no_reply k before after (Replied reply) fresh a = absurd (fresh reply refl)
@@ -33,10 +33,10 @@ module _ {P E F : Type 0} (reading : Reading P E F) where
   module _ {M R : Type 0} (standing : R → Standing P) (lock : LockView F) where
     -- a worker whose seat gained nothing
     pub stays : (p p' : Worker M R E F) → CanWork reading standing lock p → p'.rank ≡ p.rank → p'.run ≡ p.run
-        → IsReady reading lock p.rank p'.seat → p'.seat.own ≡ p.seat.own → (p'.is_short ≡ false → p.is_short ≡ false) → CanWork reading standing lock p'
+        → IsIdleSeatOf reading lock p.rank p'.seat → p'.seat.own ≡ p.seat.own → (p'.is_short ≡ false → p.is_short ≡ false) → CanWork reading standing lock p'
     stays p p' can rank run ready own short =
         record {
-          ready = subst (λ (r : ℕ). IsReady reading lock r p'.seat) (sym rank) ready;
+          ready = subst (λ (r : ℕ). IsIdleSeatOf reading lock r p'.seat) (sym rank) ready;
           beside = λ ample f frame.
               let is = can.beside (short ample) f frame in
               record {
@@ -74,10 +74,10 @@ module _ {P E F : Type 0} (reading : Reading P E F) where
     -- one whose seat has one more reply, which its run was given
     pub gains : (p p' : Worker M R E F) (reply : Reply) → CanWork reading standing lock p → p.is_short ≡ false → p'.rank ≡ p.rank
         → standing p'.run ≡ record (standing p.run) { replies = (standing p.run).replies ++ reply ∷ []; asked = false }
-        → IsReady reading lock p.rank p'.seat → AddsReply reading p.seat.number p.seat.own p'.seat.own (Replied reply) → CanWork reading standing lock p'
+        → IsIdleSeatOf reading lock p.rank p'.seat → AddsReply reading p.seat.number p.seat.own p'.seat.own (Replied reply) → CanWork reading standing lock p'
     gains p p' reply can ample rank run ready more =
         record {
-          ready = subst (λ (r : ℕ). IsReady reading lock r p'.seat) (sym rank) ready;
+          ready = subst (λ (r : ℕ). IsIdleSeatOf reading lock r p'.seat) (sym rank) ready;
           beside = λ short f frame.
               let is = can.beside ample f frame in
               record {

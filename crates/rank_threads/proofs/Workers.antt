@@ -7,14 +7,14 @@ use mathlib.Core.Logic.{dite}
 use native.Mathlib.Decide.{ℕ_discrete}
 use Rattle.run_model.specs.Program.{Standing}
 use Rattle.turn_lock.specs.Entries.{entries_of}
-use Rattle.turn_lock.specs.Seat.{AreFresh, HasFrame, LockView, SeatView, fresh}
+use Rattle.turn_lock.specs.Seat.{AreFresh, HasFrame, LockView, SeatView, new_seat}
 use Rattle.turn_lock.specs.Seats.{AllIdle}
-use Rattle.rank_threads.specs.Reading.{Reading, replies_of}
-use Rattle.rank_threads.specs.Workers.{AreBeside, AreSeated, AreWorkers, AreRunsAfter, CanWork, Each, HasWorked, IsBeside, IsWorker, IsRunAfter}
+use Rattle.rank_threads.specs.inside.Reading.{FrameReading, replies_of}
+use Rattle.rank_threads.specs.inside.Workers.{AreBeside, AreSeated, AreWorkers, AreRunsAfter, CanWork, Each, HasWorked, IsBeside, IsWorker, IsRunAfter}
 use Rattle.rank_threads.specs.declared.worker.Worker.{Worker}
 use Rattle.rank_threads.proofs.Places.{length-last}
 
-module _ {P E F : Type 0} (reading : Reading P E F) {R : Type 0} (standing : R → Standing P) where
+module _ {P E F : Type 0} (reading : FrameReading P E F) {R : Type 0} (standing : R → Standing P) where
   -- the runs of seats whose own entries are all that there is of them
   pub runs_after : (lock : LockView F) (f : F) (ranks : List ℕ) (entries : List (ℕ × E)) (seats : List (SeatView E F)) (runs : List R)
       → HasFrame lock f → lock.seats ≡ length ranks → AllIdle lock seats → All (λ (s : SeatView E F). entries_of s.number entries ≡ s.own) seats
@@ -23,7 +23,7 @@ module _ {P E F : Type 0} (reading : Reading P E F) {R : Type 0} (standing : R �
       record {
         as_many = beside.as_many ∙ (idle.0 ∙ count);
         each = λ k d lt.
-            let s : SeatView E F = fresh lock k in
+            let s : SeatView E F = new_seat lock k in
             let within : k < lock.seats = (let n = count in omega (arith, lt, n)) in
             let inside : k < length seats = (let n = idle.0 in omega (arith, within, n)) in
             let seat : SeatView E F = slice_index_or seats k s in
@@ -40,13 +40,13 @@ module _ {P E F : Type 0} (reading : Reading P E F) {R : Type 0} (standing : R �
 
   -- a seat as it was made, and a run as it was handed in
   abbrev pub FreshAt : LockView F → ℕ → SeatView E F → Type 0
-  FreshAt lock k s = s ≡ fresh lock k
+  FreshAt lock k s = s ≡ new_seat lock k
 
   abbrev pub StartsAt : LockView F → List ℕ → ℕ → R → Type 0
   StartsAt lock ranks k r = (f : F) → HasFrame lock f → IsRunAfter reading f (slice_index ranks k) [] (standing r)
 
   pub fresh_seats : (lock : LockView F) (seats : List (SeatView E F)) → AreFresh lock seats → Each (FreshAt lock) seats
-  fresh_seats lock seats new k d lt = get_or_from_slice_get seats k (fresh lock k) d (new.1 k (let n = new.0 in omega (arith, n, lt)))
+  fresh_seats lock seats new k d lt = get_or_from_slice_get seats k (new_seat lock k) d (new.1 k (let n = new.0 in omega (arith, n, lt)))
 
   pub start_runs : (lock : LockView F) (ranks : List ℕ) (runs : List R) → length runs ≡ length ranks
       → ((f : F) → HasFrame lock f → AreRunsAfter reading standing f ranks [] runs) → Each (StartsAt lock ranks) runs
@@ -84,7 +84,7 @@ module _ {P E F : Type 0} (reading : Reading P E F) {R : Type 0} (standing : R �
     abbrev pub AtPlace : ℕ → Worker M R E F → Type 0
     AtPlace i p = (k : ℕ) → k + suc i ≡ length ranks → IsWorker reading standing lock ranks k p
 
-    pub worker_new : (k : ℕ) (p : Worker M R E F) → p.seat ≡ fresh lock k → p.rank ≡ slice_index ranks k → k < length ranks
+    pub worker_new : (k : ℕ) (p : Worker M R E F) → p.seat ≡ new_seat lock k → p.rank ≡ slice_index ranks k → k < length ranks
         → ((f : F) → HasFrame lock f → AreSeated reading f ranks)
         → ((f : F) → HasFrame lock f → IsRunAfter reading f (slice_index ranks k) [] (standing p.run)) → IsWorker reading standing lock ranks k p
     worker_new k p seat rank lt are run =

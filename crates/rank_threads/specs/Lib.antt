@@ -1,4 +1,1 @@
-pub mod Reading
-pub mod Workers
-pub mod Numbered
-pub mod Readings
+pub mod inside

@@ -3,13 +3,13 @@ ghost use Rattle.std.specs.Prelude.{◌≡◌, true};
 ghost use Rattle.mpi_call.specs.declared.reply.Reply.{Reply};
 ghost use Rattle.run_model.specs.Program.{MayGive};
 ghost use Rattle.turn_lock.specs.Entries.{entries_of};
-ghost use Rattle.rank_threads.specs.Reading.{Reading, AddsReply, replies_of, is_run, seat_of, program_of, ranks_of};
+ghost use Rattle.rank_threads.specs.inside.Reading.{FrameReading, AddsReply, replies_of, is_run, seat_of, program_of, ranks_of};
 ghost use Rattle.rank_threads.specs.declared.attempts.Attempt.TheVariants.{Replied};
 
 use mpi_call::call::Call;
 use mpi_call::reply::Reply;
 use run_model::program::Program;
-use turn_lock::Told;
+use turn_lock::Ledger;
 
 /// What came of an attempt.
 #[derive(Drop)]
@@ -26,8 +26,8 @@ pub enum Attempt {
 
 /// A locked value on which ranks make their attempts. Its frame tells the program, how many ranks there are, which of them run and
 /// the seat of each; an entry tells its reply. So what a seat's own entries say is all that its rank's run has to know.
-pub trait Attempts<P: Program>: Told {
-    ghost reading: { Reading P Self.Entry Self.Frame };
+pub trait Attempts<P: Program>: Ledger {
+    ghost reading: { FrameReading P Self.Entry Self.Frame };
 
     /// One attempt of a rank that runs, with its next call. It adds the reply as one entry of the rank's seat, or nothing.
     fn attempt(&mut self, rank: u8, call: &Call) -> Attempt

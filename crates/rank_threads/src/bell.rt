@@ -1,7 +1,7 @@
 //! Where ranks sleep until another rank does what they may wait for. No clause speaks of it: a rank that wakes attempts again, and a
 //! rank that is told that all sleep leaves its round. So a rank that is woken in vain, or not at all, costs time alone.
 use crate::patience::{MOST, MOST_BESIDE_OTHERS, Patience};
-use crate::place::{LEAVES, LOOKS, Place, RESTS, SLEEPS, WORKS};
+use crate::place::{LEAVES, LOOKS, RESTS, SLEEPS, SleepingPlace, WORKS};
 use mpi_call::call::{Call, Kind, Source};
 use mpi_call::limits::MOST_RANKS;
 use mpi_call::reply::Reply;
@@ -79,7 +79,7 @@ pub struct Bell {
     has_processors: bool,
     /// Whether a rank that looks in vain rests.
     may_rest: bool,
-    places: [Place; PLACES],
+    places: [SleepingPlace; PLACES],
 }
 
 impl Bell {
@@ -96,7 +96,7 @@ impl Bell {
             ranks: ranks as u64,
             has_processors: ranks <= processors,
             may_rest,
-            places: array::from_fn(|_| Place::new()),
+            places: array::from_fn(|_| SleepingPlace::new()),
         }
     }
 
@@ -297,7 +297,7 @@ impl Bell {
         }
     }
 
-    fn place(&self, rank: u8) -> &Place {
+    fn place(&self, rank: u8) -> &SleepingPlace {
         &self.places[rank as usize % PLACES]
     }
 
@@ -306,7 +306,7 @@ impl Bell {
     }
 
     /// A rank that fell asleep while others have not started lets these run, and in the end goes on without them.
-    fn wait_for_others(&self, place: &Place) {
+    fn wait_for_others(&self, place: &SleepingPlace) {
         for _ in 0..TURNS {
             if self.are_all_there() || place.state() == WORKS {
                 return;
@@ -318,7 +318,7 @@ impl Bell {
     }
 
     /// Waits until the rank is woken, or told to leave. Tells whether it was woken.
-    fn is_woken<R: Wait>(&self, rt: &R, place: &Place, patience: &mut Patience) -> bool {
+    fn is_woken<R: Wait>(&self, rt: &R, place: &SleepingPlace, patience: &mut Patience) -> bool {
         if !self.is_woken_soon(place, patience) {
             place.park_while(rt, SLEEPS);
         }
@@ -327,7 +327,7 @@ impl Bell {
 
     /// Looks whether the rank is woken, as often as it has patience: with as many processors as ranks the thread keeps its own
     /// meanwhile, else it lets others run.
-    fn is_woken_soon(&self, place: &Place, patience: &mut Patience) -> bool {
+    fn is_woken_soon(&self, place: &SleepingPlace, patience: &mut Patience) -> bool {
         for look in 0..patience.looks(self.most_looks()) {
             if place.state() != SLEEPS {
                 patience.paid(look);
@@ -359,7 +359,7 @@ impl Bell {
 
     /// Tells the rank of this place of an event, and wakes it if it sleeps. It is counted among those that work before it wakes, so
     /// that it never takes itself for the last of them.
-    fn wake(&self, place: &Place) {
+    fn wake(&self, place: &SleepingPlace) {
         place.ring();
         let state = place.state();
         if state == SLEEPS || state == RESTS {
@@ -368,7 +368,7 @@ impl Bell {
     }
 
     /// Gives a rank another state if it has this one, and counts it among those that work.
-    fn rouse(&self, place: &Place, from: u64, to: u64) -> bool {
+    fn rouse(&self, place: &SleepingPlace, from: u64, to: u64) -> bool {
         let _ = self.awake.value.fetch_add(1, Ordering::SeqCst);
         let is_roused = place.wake(from, to);
         if !is_roused {

@@ -27,7 +27,7 @@ const ROOM: usize = 13;
 
 /// A rank's place to sleep, in lines of the cache of its own.
 #[derive(Drop)]
-pub struct Place {
+pub struct SleepingPlace {
     /// How many events were rung for that may concern the rank.
     rung: AtomicU64,
     /// What the rank does: one of the five numbers above.
@@ -36,10 +36,10 @@ pub struct Place {
     room: [u64; ROOM],
 }
 
-impl Place {
+impl SleepingPlace {
     /// The place of a rank that works.
-    pub fn new() -> Place {
-        Place {
+    pub fn new() -> SleepingPlace {
+        SleepingPlace {
             rung: AtomicU64::new(0),
             state: AtomicU64::new(WORKS),
             parker: Parker::new(),

@@ -3,7 +3,7 @@ ghost use Rattle.std.specs.Prelude.{◌≡◌, ◌<◌, IfOk, OnErr, Some};
 ghost use Rattle.mpi_call.specs.declared.reply.Reply.{Reply};
 ghost use Rattle.run_model.specs.Program.{MayGive};
 ghost use Rattle.run_model.specs.Views.{replies_in, view_of};
-ghost use Rattle.rank_threads.specs.Numbered.{AddsEvent};
+ghost use Rattle.rank_threads.specs.inside.Numbered.{AddsEvent};
 ghost use Rattle.rank_threads.specs.declared.attempts.Attempt.TheVariants.{Replied};
 
 use crate::attempts::{Attempt, Attempts};
@@ -14,7 +14,7 @@ use mpi_machine::machine::Machine;
 use run_model::event::Event;
 use run_model::program::Program;
 use std::alloc::AllocError;
-use turn_lock::Told;
+use turn_lock::Ledger;
 
 /// A machine on which ranks make their attempts. Rank k has seat k.
 #[derive(Drop)]
@@ -24,8 +24,8 @@ pub struct Recorder<'a, P: Program> {
     pub is_short: bool,
 }
 
-impl<'a, P: Program> Told for Recorder<'a, P> {
-    ghost use Rattle.rank_threads.specs.Numbered.{numbered};
+impl<'a, P: Program> Ledger for Recorder<'a, P> {
+    ghost use Rattle.rank_threads.specs.inside.Numbered.{numbered};
 
     type Entry = Event;
 
@@ -37,7 +37,7 @@ impl<'a, P: Program> Told for Recorder<'a, P> {
 }
 
 impl<'a, P: Program> Attempts<P> for Recorder<'a, P> {
-    ghost use Rattle.rank_threads.specs.Readings.{machine_reading};
+    ghost use Rattle.rank_threads.specs.inside.Readings.{machine_reading};
 
     ghost reading = { machine_reading };
 

@@ -4,7 +4,7 @@ ghost use Rattle.mpi_call.specs.Collectives.{is_member};
 ghost use Rattle.mpi_call.specs.declared.reply.Reply.{Reply};
 ghost use Rattle.run_model.specs.Program.{MayGive};
 ghost use Rattle.run_model.specs.Views.{replies_in, view_of};
-ghost use Rattle.rank_threads.specs.Numbered.{AddsEvent};
+ghost use Rattle.rank_threads.specs.inside.Numbered.{AddsEvent};
 ghost use Rattle.rank_threads.specs.declared.attempts.Attempt.TheVariants.{Replied};
 
 use crate::attempts::{Attempt, Attempts};
@@ -15,7 +15,7 @@ use run_model::program::Program;
 use srr_entry::log::Log;
 use srr_replay::replay::Replay;
 use std::alloc::AllocError;
-use turn_lock::Told;
+use turn_lock::Ledger;
 
 /// A replay on which the ranks of its group make their attempts. The k-th rank of the group has seat k.
 #[derive(Drop)]
@@ -25,8 +25,8 @@ pub struct Replayer<'a, P: Program> {
     pub is_short: bool,
 }
 
-impl<'a, P: Program> Told for Replayer<'a, P> {
-    ghost use Rattle.rank_threads.specs.Numbered.{numbered, place_in};
+impl<'a, P: Program> Ledger for Replayer<'a, P> {
+    ghost use Rattle.rank_threads.specs.inside.Numbered.{numbered, place_in};
 
     type Entry = Event;
 
@@ -38,7 +38,7 @@ impl<'a, P: Program> Told for Replayer<'a, P> {
 }
 
 impl<'a, P: Program> Attempts<P> for Replayer<'a, P> {
-    ghost use Rattle.rank_threads.specs.Readings.{replay_reading};
+    ghost use Rattle.rank_threads.specs.inside.Readings.{replay_reading};
 
     ghost reading = { replay_reading };
 

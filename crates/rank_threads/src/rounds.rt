@@ -2,7 +2,7 @@
 ghost use Rattle.std.specs.Prelude.{◌≡◌, ◌<◌, ◌≤◌, [], ℕ, IfOk, All, false, length, slice_index_or};
 ghost use Rattle.turn_lock.specs.Seat.{AreFresh, HasFrame};
 ghost use Rattle.turn_lock.specs.Seats.{AllIdle};
-ghost use Rattle.rank_threads.specs.Workers.{AreBeside, AreSeated, AreWorkers, AreRunsAfter, CanWork, HasWorked, IsWorker};
+ghost use Rattle.rank_threads.specs.inside.Workers.{AreBeside, AreSeated, AreWorkers, AreRunsAfter, CanWork, HasWorked, IsWorker};
 
 use crate::attempts::Attempts;
 use crate::bell::Bell;
@@ -16,7 +16,7 @@ use std::alloc::{AllocError, Global};
 use std::sync::Wait;
 use std::thread;
 use std::thread::Threads;
-use turn_lock::{Seat, Told, TurnLock};
+use turn_lock::{Ledger, Seat, TurnLock};
 
 /// Runs the ranks of these numbers, 1 to 64, each on a thread, until none goes on. Run k is that of the k-th of them, just started.
 /// Gives the value and the runs as they are then; the error is being out of memory.
@@ -146,7 +146,7 @@ fn make_round<
 
 /// Whether a further round is of use: there is memory, a rank is not done, the last round had an event, and ranks start in time. No
 /// clause rests on it.
-fn goes_on<M: Told, R>(workers: &[Worker<M, R>], is_late: bool) -> bool {
+fn goes_on<M: Ledger, R>(workers: &[Worker<M, R>], is_late: bool) -> bool {
     let mut is_live = false;
     let mut has_moved = false;
     for worker in workers {

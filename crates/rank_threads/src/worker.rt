@@ -2,8 +2,8 @@
 ghost use Rattle.std.specs.Prelude.{◌≡◌, ◌++◌, ◌∷◌, [], false, true, IfOk, OnOk};
 ghost use Rattle.mpi_call.specs.declared.reply.Reply.{Reply};
 ghost use Rattle.run_model.specs.Program.{MayGive, Says};
-ghost use Rattle.rank_threads.specs.Reading.{AddsReply};
-ghost use Rattle.rank_threads.specs.Workers.{CanWork, HasWorked, IsNextCall, IsReady, MayGiveTo};
+ghost use Rattle.rank_threads.specs.inside.Reading.{AddsReply};
+ghost use Rattle.rank_threads.specs.inside.Workers.{CanWork, HasWorked, IsNextCall, IsIdleSeatOf, MayGiveTo};
 ghost use Rattle.rank_threads.specs.declared.attempts.Attempt.TheVariants.{Replied};
 ghost use Rattle.rank_threads.specs.declared.worker.After.TheVariants.{Answered, Waited};
 
@@ -17,11 +17,11 @@ use mpi_call::reply::Reply;
 use run_model::program::{Program, RankRun, Want};
 use std::alloc::AllocError;
 use std::sync::Wait;
-use turn_lock::{Seat, Told, TurnLock};
+use turn_lock::{Ledger, Seat, TurnLock};
 
 /// A rank's seat and run, and how far it came.
 #[derive(Drop)]
-pub struct Worker<M: Told, R> {
+pub struct Worker<M: Ledger, R> {
     /// Its own entries are the rank's events.
     pub seat: Seat<M>,
     /// The rank's run after these events, unless `is_short`.
@@ -99,7 +99,7 @@ fn make_next_call<P: Program, M: Attempts<P>, R: RankRun<Of = P>, W: Wait, G: Ga
 }
 
 /// What the rank wants. The error is being out of memory; then nothing changed.
-fn ask<P: Program, M: Told, R: RankRun<Of = P>>(
+fn ask<P: Program, M: Ledger, R: RankRun<Of = P>>(
     worker: &mut Worker<M, R>,
 ) -> Result<Want, AllocError>
     ensures rest { (worker.new.rank ≡ worker.old.rank) × (worker.new.seat ≡ worker.old.seat) × (worker.new.is_short ≡ worker.old.is_short) }
@@ -151,7 +151,7 @@ fn make_call<P: Program, M: Attempts<P>, R: RankRun<Of = P>, W: Wait, G: Gate>(
 }
 
 /// Passes the gate, once for each call also where the call is made over several rounds.
-fn pass_gate<M: Told, R, G: Gate>(gate: &G, worker: &mut Worker<M, R>)
+fn pass_gate<M: Ledger, R, G: Gate>(gate: &G, worker: &mut Worker<M, R>)
     ensures { (worker.new.rank ≡ worker.old.rank) × (worker.new.run ≡ worker.old.run) × (worker.new.seat ≡ worker.old.seat) × (worker.new.is_short ≡ worker.old.is_short) }
 {
     if !worker.has_passed {
@@ -161,7 +161,7 @@ fn pass_gate<M: Told, R, G: Gate>(gate: &G, worker: &mut Worker<M, R>)
 }
 
 /// Before a look, where the rank has looked in vain often enough, it rests. Tells whether it goes on in this round.
-fn rest<M: Told, R, W: Wait>(rt: &W, bell: &Bell, worker: &mut Worker<M, R>, call: &Call) -> bool
+fn rest<M: Ledger, R, W: Wait>(rt: &W, bell: &Bell, worker: &mut Worker<M, R>, call: &Call) -> bool
     ensures { (worker.new.rank ≡ worker.old.rank) × (worker.new.run ≡ worker.old.run) × (worker.new.seat ≡ worker.old.seat) × (worker.new.is_short ≡ worker.old.is_short) }
 {
     let heard = bell.heard(worker.rank);
@@ -179,7 +179,7 @@ fn rest<M: Told, R, W: Wait>(rt: &W, bell: &Bell, worker: &mut Worker<M, R>, cal
 }
 
 /// The rank sleeps until it is woken. Tells whether it was; else it has left the round.
-fn sleep<M: Told, R, W: Wait>(rt: &W, bell: &Bell, worker: &mut Worker<M, R>, heard: u64) -> bool
+fn sleep<M: Ledger, R, W: Wait>(rt: &W, bell: &Bell, worker: &mut Worker<M, R>, heard: u64) -> bool
     ensures { (worker.new.rank ≡ worker.old.rank) × (worker.new.run ≡ worker.old.run) × (worker.new.seat ≡ worker.old.seat) × (worker.new.is_short ≡ worker.old.is_short) }
 {
     bell.sleep(rt, worker.rank, heard, &mut worker.patience)
@@ -239,11 +239,11 @@ fn attempt<P: Program, M: Attempts<P>, R, W: Wait>(
     worker: &mut Worker<M, R>,
     call: &Call,
 ) -> Attempt
-    requires ready { IsReady M.reading lock.now worker.old.rank worker.old.seat }
+    requires ready { IsIdleSeatOf M.reading lock.now worker.old.rank worker.old.seat }
     requires next { IsNextCall M.reading P.next lock.now worker.old.rank worker.old.seat call.now }
     ensures rest { (worker.new.rank ≡ worker.old.rank) × (worker.new.run ≡ worker.old.run) × (worker.new.is_short ≡ worker.old.is_short) }
     ensures number { worker.new.seat.number ≡ worker.old.seat.number }
-    ensures ready { IsReady M.reading lock.now worker.old.rank worker.new.seat }
+    ensures ready { IsIdleSeatOf M.reading lock.now worker.old.rank worker.new.seat }
     ensures own { AddsReply M.reading worker.old.seat.number worker.old.seat.own worker.new.seat.own result }
     ensures shape { (reply : Reply) → result ≡ Replied reply → MayGiveTo M.reading P.next lock.now worker.old.rank worker.old.seat.own reply }
 {
@@ -265,13 +265,13 @@ fn give_reply<P: Program, M: Attempts<P>, R: RankRun<Of = P>, W: Wait>(
     heard: u64,
     reply: &Reply,
 ) -> bool
-    requires ready { IsReady M.reading lock.now worker.old.rank worker.old.seat }
+    requires ready { IsIdleSeatOf M.reading lock.now worker.old.rank worker.old.seat }
     requires ample { worker.old.is_short ≡ false }
     requires asked { (R.standing worker.old.run).asked ≡ true }
     requires shape { MayGive (P.next (R.standing worker.old.run).program) (R.standing worker.old.run).ranks (R.standing worker.old.run).rank (R.standing worker.old.run).replies reply.now }
     ensures rank { worker.new.rank ≡ worker.old.rank }
     ensures number { worker.new.seat.number ≡ worker.old.seat.number }
-    ensures ready { IsReady M.reading lock.now worker.old.rank worker.new.seat }
+    ensures ready { IsIdleSeatOf M.reading lock.now worker.old.rank worker.new.seat }
     ensures given { result ≡ true → (worker.new.is_short ≡ false) × (worker.new.seat ≡ worker.old.seat) × (R.standing worker.new.run ≡ record (R.standing worker.old.run) { replies = (R.standing worker.old.run).replies ++ reply.now ∷ []; asked = false }) }
     ensures short { result ≡ false → worker.new.is_short ≡ true }
 {
@@ -293,10 +293,10 @@ fn give_up<P: Program, M: Attempts<P>, R: RankRun<Of = P>, W: Wait>(
     lock: &TurnLock<M>,
     worker: &mut Worker<M, R>,
 )
-    requires { IsReady M.reading lock.now worker.old.rank worker.old.seat }
+    requires { IsIdleSeatOf M.reading lock.now worker.old.rank worker.old.seat }
     ensures worked { HasWorked M.reading R.standing lock.now worker.old worker.new }
     ensures short { worker.new.is_short ≡ true }
-    ensures ready { IsReady M.reading lock.now worker.old.rank worker.new.seat }
+    ensures ready { IsIdleSeatOf M.reading lock.now worker.old.rank worker.new.seat }
 {
     let mut held = lock.hold(rt, &mut worker.seat);
     held.value.give_up();

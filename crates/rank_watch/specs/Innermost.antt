@@ -17,6 +17,6 @@ abbrev pub values_named : List ℕ → Variable → Option (List ℤ)
 values_named name variable = if is_named name variable then Some variable.values else None
 
 -- the values of the innermost variable of a name: of those with this name the one that is listed last
-abbrev pub innermost : List ℕ → List Variable → Option (List ℤ)
-innermost name [] = None
-innermost name (variable ∷ variables) = or_values (innermost name variables) (values_named name variable)
+abbrev pub innermost_values : List ℕ → List Variable → Option (List ℤ)
+innermost_values name [] = None
+innermost_values name (variable ∷ variables) = or_values (innermost_values name variables) (values_named name variable)

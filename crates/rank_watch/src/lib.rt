@@ -3,7 +3,7 @@
 
 ghost use Rattle.std.specs.Prelude.{◌≡◌, IfOk, Some, true};
 ghost use Rattle.mpi_call.specs.declared.call.Call.{Call};
-ghost use Rattle.rank_watch.specs.Innermost.{innermost};
+ghost use Rattle.rank_watch.specs.Innermost.{innermost_values};
 
 use mpi_call::lists::Ints;
 use run_model::program::RankRun;
@@ -16,5 +16,5 @@ pub trait WatchedRun: RankRun {
     fn variable(&self, name: &[u8]) -> Result<Option<Ints>, AllocError>
         requires asked { (Self.standing self.now).asked ≡ true }
         requires live { (call : Call) × (Self.Of.next (Self.standing self.now).program (Self.standing self.now).ranks (Self.standing self.now).rank (Self.standing self.now).replies ≡ Some call) }
-        ensures { IfOk result (λ found. found ≡ innermost name.now (Self.Of.variables (Self.standing self.now).program (Self.standing self.now).ranks (Self.standing self.now).rank (Self.standing self.now).replies)) };
+        ensures { IfOk result (λ found. found ≡ innermost_values name.now (Self.Of.variables (Self.standing self.now).program (Self.standing self.now).ranks (Self.standing self.now).rank (Self.standing self.now).replies)) };
 }

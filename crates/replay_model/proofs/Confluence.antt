@@ -14,7 +14,7 @@ use Rattle.run_model.proofs.Prefixes.{Begins, Begins-more, prefix-both}
 use Rattle.run_model.proofs.Views.{test_cases, view_of-mine, view_of-other}
 use Rattle.srr_entry.specs.declared.log.Log.{Log}
 use Rattle.replay_model.specs.declared.step.Step.TheVariants.{Replied}
-use Rattle.replay_model.specs.Replays.{IsExhausted, IsStep, IsWholeReplay, Replays, Breakpoint, answer_of}
+use Rattle.replay_model.specs.Replays.{IsExhausted, IsReplayStep, IsWholeReplay, Replays, Breakpoint, replay_answer}
 use Rattle.replay_model.specs.Stands.{stand_of, stand_where}
 use Rattle.srr_entry.specs.Outputs.{Output, printed_of}
 use Rattle.replay_model.proofs.Answers.{answer_of-replied}
@@ -22,19 +22,19 @@ use mathlib.Core.Path.{fun_ext}
 
 -- Any two replays that can go no further have the same views.
 step_at : (next : Next) (log : Log) (stop : Breakpoint) (before : List Event) (event : Event) (rank : ℕ) (view : View) (call : Call) (reply : Reply)
-    → IsStep next log stop before event → event.rank ≡ rank → view_of before rank ≡ view → event.call ≡ call → event.reply ≡ reply
-    → (next log.ranks rank (replies_in view) ≡ Some call) × (answer_of log stop (view_of before) rank view call ≡ Replied reply) × (is_member log.group rank ≡ true)
+    → IsReplayStep next log stop before event → event.rank ≡ rank → view_of before rank ≡ view → event.call ≡ call → event.reply ≡ reply
+    → (next log.ranks rank (replies_in view) ≡ Some call) × (replay_answer log stop (view_of before) rank view call ≡ Replied reply) × (is_member log.group rank ≡ true)
 step_at next log stop before event rank view call reply step rank_is view_is call_is reply_is =
     (rw (← view_is, ← call_is, ← rank_is) step.call, rw (← view_is, ← call_is, ← reply_is, ← rank_is) step.reply, rw (← rank_is) step.member)
 
 -- the event at this place of a replay, as a step over the views of all of it
 pub step_in : (next : Next) (log : Log) (stop : Breakpoint) (events : List Event) (rank : ℕ) (view : View) (call : Call) (reply : Reply) (rest : View)
     → Replays next log stop events → view_of events rank ≡ view ++ (call, reply) ∷ rest
-    → (next log.ranks rank (replies_in view) ≡ Some call) × (answer_of log stop (view_of events) rank view call ≡ Replied reply) × (is_member log.group rank ≡ true)
+    → (next log.ranks rank (replies_in view) ≡ Some call) × (replay_answer log stop (view_of events) rank view call ≡ Replied reply) × (is_member log.group rank ≡ true)
 step_in next log stop events rank view call reply rest all e =
     let at = place events rank view call reply rest e in
     let whole : Replays next log stop (at.before ++ at.event ∷ at.after) = let P : List Event → Type 0 = λ l. Replays next log stop l in subst P at.whole all in
-    let step = (Along-back (IsStep next log stop) [] at.before (at.event ∷ at.after) whole).0 in
+    let step = (Along-back (IsReplayStep next log stop) [] at.before (at.event ∷ at.after) whole).0 in
     let views : Begins (view_of at.before) (view_of events) = let P : List Event → Type 0 = λ l. Begins (view_of at.before) (view_of l) in subst P (sym at.whole) (Begins-more at.before (at.event ∷ at.after)) in
     let found = step_at next log stop at.before at.event rank view call reply step at.rank_is at.view_is at.call_is at.reply_is in
     (found.0, answer_of-replied log stop (view_of at.before) (view_of events) view rank call reply views found.1, found.2)
@@ -42,7 +42,7 @@ step_in next log stop events rank view call reply rest all e =
 -- the next event of a rank in one replay stands in the other too, where that has gone further or can go no further
 next_in : (next : Next) (log : Log) (stop : Breakpoint) (before other : List Event) (event : Event) (rest : View)
     → Replays next log stop other → IsExhausted next log stop other → Begins (view_of before) (view_of other)
-    → IsStep next log stop before event → view_of before event.rank ++ rest ≡ view_of other event.rank
+    → IsReplayStep next log stop before event → view_of before event.rank ++ rest ≡ view_of other event.rank
     → IsPrefixOf (view_of before event.rank ++ (event.call, event.reply) ∷ []) (view_of other event.rank)
 next_in next log stop before other event [] all done begins step e =
     let same : view_of before event.rank ≡ view_of other event.rank = rw append-nil at e in
@@ -57,14 +57,14 @@ next_in next log stop before other event ((call, reply) ∷ rest) all done begin
     let calls : Some call ≡ Some event.call = sym found.0 ∙ step.call in
     let same_call : call ≡ event.call = cc in
     let answered = answer_of-replied log stop (view_of before) (view_of other) (view_of before event.rank) event.rank event.call event.reply begins step.reply in
-    let answered_other : answer_of log stop (view_of other) event.rank (view_of before event.rank) event.call ≡ Replied reply = rw same_call at found.1 in
+    let answered_other : replay_answer log stop (view_of other) event.rank (view_of before event.rank) event.call ≡ Replied reply = rw same_call at found.1 in
     let replies : Replied reply ≡ Replied event.reply = sym answered_other ∙ answered in
     let same_reply : reply ≡ event.reply = cc in
     (rest, rw (append_assoc, ← same_call, ← same_reply) e)
 
 keeps : (next : Next) (log : Log) (stop : Breakpoint) (other : List Event) → Replays next log stop other
     → IsExhausted next log stop other → (before : List Event) (event : Event) → Begins (view_of before) (view_of other)
-    → IsStep next log stop before event → Begins (view_of (before ++ event ∷ [])) (view_of other)
+    → IsReplayStep next log stop before event → Begins (view_of (before ++ event ∷ [])) (view_of other)
 keeps next log stop other all done before event begins step rank =
     elim (test_cases (event.rank == rank)) [
       | inl h ↦
@@ -79,7 +79,7 @@ keeps next log stop other all done before event begins step rank =
 pub Begins-exhausted : (next : Next) (log : Log) (stop : Breakpoint) (events other : List Event) → Replays next log stop events
     → Replays next log stop other → IsExhausted next log stop other → Begins (view_of events) (view_of other)
 Begins-exhausted next log stop events other all all_other done =
-    Along-keeps (IsStep next log stop) (λ before. Begins (view_of before) (view_of other)) (keeps next log stop other all_other done) [] events (λ rank. (view_of other rank, refl)) all
+    Along-keeps (IsReplayStep next log stop) (λ before. Begins (view_of before) (view_of other)) (keeps next log stop other all_other done) [] events (λ rank. (view_of other rank, refl)) all
 
 pub confluence : (next : Next) (log : Log) (stop : Breakpoint) (events other : List Event) → IsWholeReplay next log stop events
     → IsWholeReplay next log stop other → (rank : ℕ) → view_of events rank ≡ view_of other rank
@@ -103,5 +103,5 @@ pub same_stands : (next : Next) (variables : ℕ → ℕ → List Reply → List
     → IsWholeReplay next log stop events → IsWholeReplay next log stop other → (rank : ℕ)
     → stand_of next variables log stop events rank ≡ stand_of next variables log stop other rank
 same_stands next variables log stop events other all all_other rank =
-    ap (λ (V : ℕ → View). stand_where (next log.ranks rank (replies_in (V rank))) (variables log.ranks rank (replies_in (V rank))) (answer_of log stop V rank (V rank)))
+    ap (λ (V : ℕ → View). stand_where (next log.ranks rank (replies_in (V rank))) (variables log.ranks rank (replies_in (V rank))) (replay_answer log stop V rank (V rank)))
     (same_views next log stop events other all all_other)

@@ -26,11 +26,11 @@ use Rattle.replay_model.specs.declared.step.Missing.{Missing}
 use Rattle.replay_model.specs.declared.step.Step.{Step}
 use Rattle.replay_model.specs.declared.step.Step.TheVariants.{AtBreak, LogEnded, Replied, Wait}
 use Rattle.replay_model.specs.Breaks.{broken}
-use Rattle.replay_model.specs.Filling.{filled}
-use Rattle.replay_model.specs.Fits.{fits}
-use Rattle.replay_model.specs.Laws.{EachStand, HasAllOf, HasTheCut, IsDone, IsRunWith}
-use Rattle.replay_model.specs.Replays.{IsWholeReplay, Replays, Breakpoint, answer_of, diverged, is_break, judged}
-use Rattle.replay_model.specs.Rests.{IsCutOff, follows, rank_of, rests, rests_on, stops}
+use Rattle.replay_model.specs.Filling.{filled_reply}
+use Rattle.replay_model.specs.Fits.{entry_fits}
+use Rattle.replay_model.specs.Laws.{EachStand, HasAllOf, HasTheCut, IsStandAtEnd, IsRunWith}
+use Rattle.replay_model.specs.Replays.{IsWholeReplay, Replays, Breakpoint, replay_answer, diverged, is_break, judged}
+use Rattle.replay_model.specs.Rests.{IsCutOff, follows, rank_rested_on, rests, rests_on, stops}
 use Rattle.replay_model.specs.Stands.{stand_where}
 use Rattle.replay_model.proofs.Answers.{answer_of-same, goes, waits}
 use Rattle.replay_model.proofs.Confluence.{step_in}
@@ -84,7 +84,7 @@ judged-waits me own call entry (Ok other) None missing h = absurd (cc)
 -- what stands at a place of a replay stands there in the run
 at_place : (next : Next) (log : Log) (stop : Breakpoint) (run events : List Event) (rank : ℕ) (view rest : View) (call : Call) (reply : Reply)
     → IsRunWith next log run → Replays next log stop events → view_of run rank ≡ view ++ (call, reply) ∷ rest
-    → length view < length (view_of events rank) → answer_of log stop (view_of events) rank view call ≡ Replied reply
+    → length view < length (view_of events rank) → replay_answer log stop (view_of events) rank view call ≡ Replied reply
 at_place next log stop run events rank view rest call reply is all e below =
     let cut = split_at (view_of events rank) (length view) below in
     let prefix = begins_run next log stop run events is all rank in
@@ -119,18 +119,18 @@ cut_off_not next log stop run events _ _ is all (rests_on rank view rest call re
     let place = below_there n (view_of events) (view_of run) missing (begins_run next log stop run events is all) there in
     let numbers : Some place.0 ≡ Some number = sym place.1 ∙ number_is in
     let same : place.0 ≡ number = cc in
-    let F : ℕ → Type 0 = λ x. x < length (view_of events (rank_of missing)) in
-    cut_off_not next log stop run events (rank_of missing) number is all off (subst F same place.2)
+    let F : ℕ → Type 0 = λ x. x < length (view_of events (rank_rested_on missing)) in
+    cut_off_not next log stop run events (rank_rested_on missing) number is all off (subst F same place.2)
 
 -- an answer to wait names what is missing
 waits_for : (log : Log) (stop : Breakpoint) (V : ℕ → View) (own : View) (me : ℕ) (call : Call) (entry : Entry) (missing : Missing)
-    → slice_get (entries_for log.group log.lists me) (length own) ≡ Some entry → answer_of log stop V me own call ≡ Wait missing
-    → filled log.ranks V me own call entry ≡ Err missing
+    → slice_get (entries_for log.group log.lists me) (length own) ≡ Some entry → replay_answer log stop V me own call ≡ Wait missing
+    → filled_reply log.ranks V me own call entry ≡ Err missing
 waits_for log stop V own me call entry missing e h =
     elim (test_cases (is_break stop me (length own))) [
       | inl t ↦ (let no : AtBreak ≡ Wait missing = rw t at h in absurd (cc))
-      | inr t ↦ elim (test_cases (fits log.ranks log.group me own call entry)) [
-        | inl f ↦ judged-waits me own call entry (filled log.ranks V me own call entry) (broken log.ranks V me own call entry) missing (rw (t, e, f) at h)
+      | inr t ↦ elim (test_cases (entry_fits log.ranks log.group me own call entry)) [
+        | inl f ↦ judged-waits me own call entry (filled_reply log.ranks V me own call entry) (broken log.ranks V me own call entry) missing (rw (t, e, f) at h)
         | inr f ↦ (let no : diverged me own call entry None ≡ Wait missing = rw (t, e, f) at h in absurd (cc))
       ]
     ]
@@ -157,10 +157,10 @@ missing_there : (n : ℕ) (group : List ℕ) (stop : Breakpoint) (run events bef
 missing_there n group stop run events before rank view rest call reply missing has begins begins_before member e free among there =
     let up : Begins (within group (view_of before)) (view_of run) = λ r. prefix_trans (within group (view_of before) r) (view_of before r) (view_of run r) (within_begins group (view_of before) r) (begins_before r) in
     let place = below_there n (within group (view_of before)) (view_of run) missing up there in
-    elim (test_cases (is_member group (rank_of missing))) [
+    elim (test_cases (is_member group (rank_rested_on missing))) [
       | inl i ↦ (
-          let below : place.0 < length (view_of before (rank_of missing)) = rw i at place.2 in
-          let replayed = has (rank_of missing) place.0 i below (λ b. free (rests_on rank view rest call reply missing place.0 member e among place.1 b)) in
+          let below : place.0 < length (view_of before (rank_rested_on missing)) = rw i at place.2 in
+          let replayed = has (rank_rested_on missing) place.0 i below (λ b. free (rests_on rank view rest call reply missing place.0 member e among place.1 b)) in
           there_below n (view_of events) (view_of run) missing place.0 begins place.1 replayed)
       | inr o ↦ (
           let below : place.0 < 0 = rw o at place.2 in
@@ -189,7 +189,7 @@ next_free next log stop run events before after event lawful is all e has member
     let needed : List Missing = rests n event.rank own event.call entry in
     elim (answer_of-same log stop (view_of events) (within group (view_of run)) own event.rank event.call up) [
       | goes e ↦ (
-          let answer : answer_of log stop (view_of events) event.rank own event.call ≡ Replied event.reply = sym e ∙ whole in
+          let answer : replay_answer log stop (view_of events) event.rank own event.call ≡ Replied event.reply = sym e ∙ whole in
           let made : Event = record { rank = event.rank; call = event.call; reply = event.reply; mate = None } in
           all.exhausted made (record { member = member; call = rw (← same) step.call; reply = rw (← same) answer; mate = refl }))
       | waits missing w ↦ (
@@ -292,7 +292,7 @@ none_cut_off : (n : ℕ) (group : List ℕ) (V : ℕ → View) (stop : Breakpoin
     → IsCutOff n group V stop rank number → ⊥
 none_cut_off n group V stop _ _ stopless (stops rank number t) = (let e : is_break None rank number ≡ true = rw stopless at t in let bad : false ≡ true = e in cc)
 none_cut_off n group V stop _ _ stopless (follows rank number off) = none_cut_off n group V stop rank number stopless off
-none_cut_off n group V stop _ _ stopless (rests_on rank view rest call reply missing number member e among number_is off) = none_cut_off n group V stop (rank_of missing) number stopless off
+none_cut_off n group V stop _ _ stopless (rests_on rank view rest call reply missing number member e among number_is off) = none_cut_off n group V stop (rank_rested_on missing) number stopless off
 
 nothing_in : {A : Type 0} (xs : List A) → length xs ≡ 0 → xs ≡ []
 nothing_in [] h = refl
@@ -327,7 +327,7 @@ HasAllOf-whole next output log stop run events stopless lawful is all =
     }
 
 stand_done : (next : Option Call) (variables : List Variable) (answer : Call → Step) (stand : Stand)
-    → ((call : Call) → answer call ≡ LogEnded) → stand_where next variables answer ≡ Some stand → IsDone stand
+    → ((call : Call) → answer call ≡ LogEnded) → stand_where next variables answer ≡ Some stand → IsStandAtEnd stand
 stand_done None variables answer stand ended h = (let same : StandEnded ≡ stand = cc in inl (sym same))
 stand_done (Some call) variables answer stand ended h =
     let at : Some StandLogEnded ≡ Some stand = rw (ended call) at h in
@@ -337,10 +337,10 @@ stand_done (Some call) variables answer stand ended h =
 -- and each stand is Ended or LogEnded
 pub stands_done : (next : Next) (variables : ℕ → ℕ → List Reply → List Variable) (log : Log) (stop : Breakpoint) (run events : List Event)
     → stop ≡ None → Lawful next → IsRunWith next log run → IsWholeReplay next log stop events
-    → EachStand IsDone next variables log stop events
+    → EachStand IsStandAtEnd next variables log stop events
 stands_done next variables log stop run events stopless lawful is all rank stand member h =
     let own : View = view_of events rank in
     let past = entry_past log run rank own is.same_log member (sym (whole_views next log stop run events rank stopless lawful is all member)) in
     let free : is_break stop rank (length own) ≡ false = rw stopless in
-    stand_done (next log.ranks rank (replies_in own)) (variables log.ranks rank (replies_in own)) (answer_of log stop (view_of events) rank own) stand
+    stand_done (next log.ranks rank (replies_in own)) (variables log.ranks rank (replies_in own)) (replay_answer log stop (view_of events) rank own) stand
     (λ call. rw (free, past)) h

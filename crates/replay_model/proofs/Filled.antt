@@ -6,7 +6,7 @@ use Rattle.mpi_call.specs.declared.reply.Item.{Item}
 use Rattle.mpi_call.specs.declared.reply.Reply.{Reply}
 use Rattle.mpi_call.specs.Calls.{comm_of, ints_of, listed_by}
 use Rattle.mpi_call.specs.Collectives.{needs}
-use Rattle.run_model.specs.Communicators.{Entered, enter_at, instance_of, members_in}
+use Rattle.run_model.specs.Communicators.{Entered, enter_at, instance_of, members_for_rank}
 use Rattle.run_model.specs.Inputs.{gather, inputs_of}
 use Rattle.run_model.specs.Views.{View, start_at}
 use Rattle.run_model.proofs.Gathering.{inputs-kept, pushed, with_some}
@@ -20,9 +20,9 @@ use Rattle.srr_entry.specs.declared.entry.Mark.TheVariants.{Inner, Inside, Made 
 use Rattle.srr_entry.specs.declared.entry.Marked.{Marked}
 use Rattle.replay_model.specs.declared.step.Missing.{Missing}
 use Rattle.replay_model.specs.Breaks.{break_inner, break_mark, break_marks, break_members, break_send, broken}
-use Rattle.replay_model.specs.Filling.{as_took, fill_inner, fill_made, fill_mark, fill_marks, filled, joined, made_new, message_from, peeked_from, push_item}
+use Rattle.replay_model.specs.Filling.{as_took, asker_of, fill_inner, fill_made, fill_mark, fill_marks, filled_message, filled_reply, joined_result, made_new, peeked_from, push_item}
 
-message-same : (source start : ℕ) (o p : Option Call) (got : Got) → Keeps o p → message_from source start o ≡ Ok got → p ≡ o
+message-same : (source start : ℕ) (o p : Option Call) (got : Got) → Keeps o p → filled_message source start o ≡ Ok got → p ≡ o
 message-same source start None p got keeps h = absurd (cc)
 message-same source start (Some call) p got keeps h = keeps.kept call refl
 
@@ -49,12 +49,12 @@ break_members-same needed find later (m ∷ members) inputs enter all keeps h =
     ]
 
 joined-ok : (n : ℕ) (own : View) (me k : ℕ) (enter : Call) (inputs : Result (List (List ℤ)) ℕ) (got : Got)
-    → joined n me own k enter inputs ≡ Ok got → (all : List (List ℤ)) × (inputs ≡ Ok all)
+    → joined_result n me own k enter inputs ≡ Ok got → (all : List (List ℤ)) × (inputs ≡ Ok all)
 joined-ok n own me k enter (Ok all) got h = (all, refl)
 joined-ok n own me k enter (Err m) got h = absurd (cc)
 
 made_new-ok : (comm n : ℕ) (own : View) (me k : ℕ) (enter : Call) (inputs : Result (List (List ℤ)) ℕ) (got : Got)
-    → made_new comm n me own k enter inputs ≡ Ok got → (all : List (List ℤ)) × (inputs ≡ Ok all)
+    → made_new comm (asker_of n me own) k enter inputs ≡ Ok got → (all : List (List ℤ)) × (inputs ≡ Ok all)
 made_new-ok comm n own me k enter (Ok all) got h = (all, refl)
 made_new-ok comm n own me k enter (Err m) got h = absurd (cc)
 
@@ -70,7 +70,7 @@ enters-kept n V W own k enter begins m = enter_at-kept n (V m) (W m) (comm_of en
 break_inner-same : (n : ℕ) (V W : ℕ → View) (own : View) (me k : ℕ) (enter : Call) (inputs : List (List ℤ)) → Begins V W
     → inputs_of n V me own k enter ≡ Ok inputs → break_inner n W me own k (Some enter) ≡ break_inner n V me own k (Some enter)
 break_inner-same n V W own me k enter inputs begins h =
-    break_members-same (needs enter (members_in n own (comm_of enter)) me) (λ m. enter_at n (V m) (comm_of enter) (instance_of own k (comm_of enter))) (λ m. enter_at n (W m) (comm_of enter) (instance_of own k (comm_of enter))) (members_in n own (comm_of enter)) inputs enter (members_in n own (comm_of enter)) (enters-kept n V W own k enter begins) h
+    break_members-same (needs enter (members_for_rank n own (comm_of enter)) me) (λ m. enter_at n (V m) (comm_of enter) (instance_of own k (comm_of enter))) (λ m. enter_at n (W m) (comm_of enter) (instance_of own k (comm_of enter))) (members_for_rank n own (comm_of enter)) inputs enter (members_for_rank n own (comm_of enter)) (enters-kept n V W own k enter begins) h
 
 fill_inner-same : (n : ℕ) (V W : ℕ → View) (own : View) (me k : ℕ) (enter : Option Call) (got : Got) → Begins V W
     → fill_inner n V me own k enter ≡ Ok got
@@ -79,16 +79,16 @@ fill_inner-same n V W own me k None got begins h = (refl, refl)
 fill_inner-same n V W own me k (Some enter) got begins h =
     let all = joined-ok n own me k enter (inputs_of n V me own k enter) got h in
     let there = inputs-kept n V W own me k enter all.0 begins all.1 in
-    (ap (joined n me own k enter) (there ∙ sym all.1), break_inner-same n V W own me k enter all.0 begins all.1)
+    (ap (joined_result n me own k enter) (there ∙ sym all.1), break_inner-same n V W own me k enter all.0 begins all.1)
 
 fill_made-same : (comm n : ℕ) (V W : ℕ → View) (own : View) (me k : ℕ) (enter : Option Call) (got : Got) → Begins V W
-    → fill_made comm n V me own k enter ≡ Ok got
-    → (fill_made comm n W me own k enter ≡ fill_made comm n V me own k enter) × (break_inner n W me own k enter ≡ break_inner n V me own k enter)
+    → fill_made comm V (asker_of n me own) k enter ≡ Ok got
+    → (fill_made comm W (asker_of n me own) k enter ≡ fill_made comm V (asker_of n me own) k enter) × (break_inner n W me own k enter ≡ break_inner n V me own k enter)
 fill_made-same comm n V W own me k None got begins h = (refl, refl)
 fill_made-same comm n V W own me k (Some enter) got begins h =
     let all = made_new-ok comm n own me k enter (inputs_of n V me own k enter) got h in
     let there = inputs-kept n V W own me k enter all.0 begins all.1 in
-    (ap (made_new comm n me own k enter) (there ∙ sym all.1), break_inner-same n V W own me k enter all.0 begins all.1)
+    (ap (made_new comm (asker_of n me own) k enter) (there ∙ sym all.1), break_inner-same n V W own me k enter all.0 begins all.1)
 
 fill_mark-same : (n : ℕ) (V W : ℕ → View) (own : View) (me k : ℕ) (mark : Mark) (got : Got) → Begins V W
     → fill_mark n V me own k mark ≡ Ok got → SameMark n V W own me k mark
@@ -99,7 +99,7 @@ fill_mark-same n V W own me k (Outer ints) got begins h = record { filled = refl
 fill_mark-same n V W own me k (MadeOutside comm members) got begins h = record { filled = refl; breaks = refl }
 fill_mark-same n V W own me k (Inside source start) got begins h =
     let same = message-same source start (start_at (V source) start) (start_at (W source) start) got (start_at-kept (V source) (W source) start (begins source)) h in
-    record { filled = ap (message_from source start) same; breaks = ap (break_send me source start (start_at own k)) same }
+    record { filled = ap (filled_message source start) same; breaks = ap (break_send me source start (start_at own k)) same }
 fill_mark-same n V W own me k Inner got begins h =
     let same = fill_inner-same n V W own me k (start_at own k) got begins h in
     record { filled = same.0; breaks = same.1 }
@@ -134,11 +134,11 @@ as_took-ok (Err m) reply h = absurd (cc)
 
 -- an entry that can be filled is filled alike later, and breaks alike
 pub record SameEntry (n : ℕ) (V W : ℕ → View) (own : View) (me : ℕ) (call : Call) (entry : Entry) : Type 0 where
-  pub fill : filled n W me own call entry ≡ filled n V me own call entry
+  pub fill : filled_reply n W me own call entry ≡ filled_reply n V me own call entry
   pub breaks : broken n W me own call entry ≡ broken n V me own call entry
 
 pub filled-same : (n : ℕ) (V W : ℕ → View) (own : View) (me : ℕ) (call : Call) (entry : Entry) (reply : Reply) → Begins V W
-    → filled n V me own call entry ≡ Ok reply → SameEntry n V W own me call entry
+    → filled_reply n V me own call entry ≡ Ok reply → SameEntry n V W own me call entry
 filled-same n V W own me call EntrySent reply begins h = record { fill = refl; breaks = refl }
 filled-same n V W own me call Posted reply begins h = record { fill = refl; breaks = refl }
 filled-same n V W own me call EntryEntered reply begins h = record { fill = refl; breaks = refl }

@@ -12,16 +12,16 @@ use Rattle.mpi_call.specs.Calls.{comm_of, listed_by, makes}
 use Rattle.mpi_call.specs.Collectives.{is_member, is_uncoloured, needs}
 use Rattle.run_model.specs.declared.event.Event.{Event}
 use Rattle.run_model.specs.Allowed.{IsAllowed, IsStuck}
-use Rattle.run_model.specs.Communicators.{enter_at, instance_of, members_in}
+use Rattle.run_model.specs.Communicators.{enter_at, instance_of, members_for_rank}
 use Rattle.run_model.specs.Due.{due}
 use Rattle.run_model.specs.Inputs.{gather, inputs_of}
 use Rattle.run_model.specs.Readiness.{AreGots, IsFrom, IsGot, IsMessage}
-use Rattle.run_model.specs.Views.{Next, View, start_at, view_of}
+use Rattle.run_model.specs.Views.{Next, View, moment_of, start_at, view_of}
 use Rattle.run_model.proofs.Prefixes.{Begins}
 use Rattle.run_model.proofs.TrueReplies.{IsTrueReply, allowed_true}
 use Rattle.run_model.proofs.Views.{test_cases}
-use Rattle.srr_entry.specs.Entries.{all_within, entry_of, is_inner, mark_of, marks_of}
-use Rattle.replay_model.specs.Filling.{as_took, fill_mark, fill_marks, filled}
+use Rattle.srr_entry.specs.Entries.{all_within, entry_of, is_inner, mark_of_got, marks_of_items}
+use Rattle.replay_model.specs.Filling.{as_took, fill_mark, fill_marks, filled_reply}
 
 -- the views of a group; other ranks have seen nothing
 abbrev pub within : List ℕ → (ℕ → View) → ℕ → View
@@ -60,7 +60,7 @@ gather-within group V n comm instance needed (m ∷ members) h =
     ]
 
 message : (n : ℕ) (group : List ℕ) (before : List Event) (own : View) (me k : ℕ) (got : Got) → IsMessage before me k got
-    → fill_mark n (within group (view_of before)) me own k (mark_of n group me own k got) ≡ Ok got
+    → fill_mark n (within group (view_of before)) me own k (mark_of_got n group me own k got) ≡ Ok got
 message n group before own me k got is =
     let source : ℕ = is.send.0 in
     let start : ℕ = is.send.1 in
@@ -73,12 +73,12 @@ inputs-within : (n : ℕ) (group : List ℕ) (V : ℕ → View) (own : View) (me
     → start_at own k ≡ Some enter → is_inner n group me own (start_at own k) ≡ true → inputs_of n V me own k enter ≡ Ok inputs
     → inputs_of n (within group V) me own k enter ≡ Ok inputs
 inputs-within n group V own me k enter inputs at inner gathered =
-    let all : all_within group (needs enter (members_in n own (comm_of enter)) me) (members_in n own (comm_of enter)) ≡ true = rw at at inner in
-    gather-within group V n (comm_of enter) (instance_of own k (comm_of enter)) (needs enter (members_in n own (comm_of enter)) me) (members_in n own (comm_of enter)) all ∙ gathered
+    let all : all_within group (needs enter (members_for_rank n own (comm_of enter)) me) (members_for_rank n own (comm_of enter)) ≡ true = rw at at inner in
+    gather-within group V n (comm_of enter) (instance_of own k (comm_of enter)) (needs enter (members_for_rank n own (comm_of enter)) me) (members_for_rank n own (comm_of enter)) all ∙ gathered
 
 collected : (n : ℕ) (group : List ℕ) (before : List Event) (own : View) (me k : ℕ) (enter : Call) (got : Got) (m u : Bool) (inputs : List (List ℤ))
     → start_at own k ≡ Some enter → inputs_of n (view_of before) me own k enter ≡ Ok inputs → IsFrom m u n me own enter inputs got
-    → fill_mark n (within group (view_of before)) me own k (mark_of n group me own k got) ≡ Ok got
+    → fill_mark n (within group (view_of before)) me own k (mark_of_got n group me own k got) ≡ Ok got
 collected n group before own me k enter got true true inputs at gathered given =
     elim (test_cases (is_inner n group me own (start_at own k))) [
       | inl i ↦ rw (given, i)
@@ -100,8 +100,8 @@ collected n group before own me k enter got false u inputs at gathered given =
     ]
 
 got_filled : (n : ℕ) (group : List ℕ) (before : List Event) (own : View) (me k : ℕ) (start : Option Call) (got : Got)
-    → start_at own k ≡ start → IsGot n before me own k start got
-    → fill_mark n (within group (view_of before)) me own k (mark_of n group me own k got) ≡ Ok got
+    → start_at own k ≡ start → IsGot (moment_of n before me own) k start got
+    → fill_mark n (within group (view_of before)) me own k (mark_of_got n group me own k got) ≡ Ok got
 got_filled n group before own me k None got at is = absurd is
 got_filled n group before own me k (Some (Send comm dest tag ints sync)) got at is = rw is
 got_filled n group before own me k (Some (Post comm Null tag room)) got at is = rw is
@@ -116,15 +116,15 @@ got_filled n group before own me k (Some (Trap fault)) got at is = absurd is
 got_filled n group before own me k (Some End) got at is = absurd is
 
 gots_filled : (n : ℕ) (group : List ℕ) (before : List Event) (own : View) (me : ℕ) (starts : List ℕ) (items : List Item)
-    → AreGots n before me own starts items
-    → fill_marks n (within group (view_of before)) me own starts (marks_of n group me own starts items) ≡ Ok items
+    → AreGots (moment_of n before me own) starts items
+    → fill_marks n (within group (view_of before)) me own starts (marks_of_items n group me own starts items) ≡ Ok items
 gots_filled n group before own me starts [] are = refl
 gots_filled n group before own me starts (item ∷ items) are =
     rw (got_filled n group before own me (slice_index starts item.index) (start_at own (slice_index starts item.index)) item.got refl are.0, gots_filled n group before own me starts items are.1)
 
 pub filled_true : (n : ℕ) (group : List ℕ) (before : List Event) (own : View) (me : ℕ) (call : Call) (reply : Reply)
     → IsTrueReply n before own me call reply
-    → filled n (within group (view_of before)) me own call (entry_of n group me own call reply) ≡ Ok reply
+    → filled_reply n (within group (view_of before)) me own call (entry_of n group me own call reply) ≡ Ok reply
 filled_true n group before own me (Send comm dest tag ints sync) Done is = refl
 filled_true n group before own me (Post comm source tag room) Done is = refl
 filled_true n group before own me (Enter comm kind root op count ints) Done is = refl
@@ -141,6 +141,6 @@ filled_true n group before own me call (Peeked source start tag count) is =
 -- the entry of an allowed reply stands for it
 pub filled_allowed : (next : Next) (n : ℕ) (group : List ℕ) (before : List Event) (me : ℕ) (call : Call) (reply : Reply)
     → IsAllowed next n before me call reply
-    → filled n (within group (view_of before)) me (view_of before me) call (entry_of n group me (view_of before me) call reply) ≡ Ok reply
+    → filled_reply n (within group (view_of before)) me (view_of before me) call (entry_of n group me (view_of before me) call reply) ≡ Ok reply
 filled_allowed next n group before me call reply is =
     filled_true n group before (view_of before me) me call reply (allowed_true (due n before me (view_of before me) call) (IsStuck next n before) n before (view_of before me) me call reply is)

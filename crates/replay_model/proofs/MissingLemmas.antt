@@ -7,7 +7,7 @@ use Rattle.mpi_call.specs.declared.reply.Got.{Got}
 use Rattle.mpi_call.specs.declared.reply.Item.{Item}
 use Rattle.mpi_call.specs.Calls.{comm_of, ints_of, listed_by}
 use Rattle.mpi_call.specs.Collectives.{needs}
-use Rattle.run_model.specs.Communicators.{Entered, enter_at, instance_of, members_in}
+use Rattle.run_model.specs.Communicators.{Entered, enter_at, instance_of, members_for_rank}
 use Rattle.run_model.specs.Inputs.{gather, inputs_of, push_ints, with_ints}
 use Rattle.run_model.specs.Views.{View, start_at}
 use Rattle.run_model.proofs.Views.{test_cases}
@@ -18,7 +18,7 @@ use Rattle.srr_entry.specs.declared.entry.Mark.TheVariants.{Inner, Inside, Made 
 use Rattle.srr_entry.specs.declared.entry.Marked.{Marked}
 use Rattle.replay_model.specs.declared.step.Missing.{Missing}
 use Rattle.replay_model.specs.declared.step.Missing.TheVariants.{Member, Start}
-use Rattle.replay_model.specs.Filling.{as_took, fill_inner, fill_made, fill_mark, fill_marks, filled, joined, made_new, message_from, peeked_from, push_item}
+use Rattle.replay_model.specs.Filling.{as_took, asker_of, fill_inner, fill_made, fill_mark, fill_marks, filled_message, filled_reply, joined_result, made_new, peeked_from, push_item}
 use Rattle.replay_model.specs.Rests.{rests, rests_enter, rests_mark, rests_marks, rests_members}
 
 abbrev pub is_there : ℕ → (ℕ → View) → Missing → Bool
@@ -60,12 +60,12 @@ gather-missing n V comm instance needed (m ∷ members) =
     ]
 
 joined-missing : (n : ℕ) (own : View) (me k : ℕ) (enter : Call) (r : Result (List (List ℤ)) ℕ)
-    → member_in (comm_of enter) (instance_of own k (comm_of enter)) r ≡ missing_in (joined n me own k enter r)
+    → member_in (comm_of enter) (instance_of own k (comm_of enter)) r ≡ missing_in (joined_result n me own k enter r)
 joined-missing n own me k enter (Ok x) = refl
 joined-missing n own me k enter (Err m) = refl
 
 made-missing : (comm n : ℕ) (own : View) (me k : ℕ) (enter : Call) (r : Result (List (List ℤ)) ℕ)
-    → member_in (comm_of enter) (instance_of own k (comm_of enter)) r ≡ missing_in (made_new comm n me own k enter r)
+    → member_in (comm_of enter) (instance_of own k (comm_of enter)) r ≡ missing_in (made_new comm (asker_of n me own) k enter r)
 made-missing comm n own me k enter (Ok x) = refl
 made-missing comm n own me k enter (Err m) = refl
 
@@ -73,18 +73,18 @@ inner-missing : (n : ℕ) (V : ℕ → View) (own : View) (me k : ℕ) (start : 
     → first_missing n V (rests_enter n me own k start) ≡ missing_in (fill_inner n V me own k start)
 inner-missing n V own me k None = refl
 inner-missing n V own me k (Some enter) =
-    gather-missing n V (comm_of enter) (instance_of own k (comm_of enter)) (needs enter (members_in n own (comm_of enter)) me) (members_in n own (comm_of enter))
+    gather-missing n V (comm_of enter) (instance_of own k (comm_of enter)) (needs enter (members_for_rank n own (comm_of enter)) me) (members_for_rank n own (comm_of enter))
     ∙ joined-missing n own me k enter (inputs_of n V me own k enter)
 
 new-missing : (comm n : ℕ) (V : ℕ → View) (own : View) (me k : ℕ) (start : Option Call)
-    → first_missing n V (rests_enter n me own k start) ≡ missing_in (fill_made comm n V me own k start)
+    → first_missing n V (rests_enter n me own k start) ≡ missing_in (fill_made comm V (asker_of n me own) k start)
 new-missing comm n V own me k None = refl
 new-missing comm n V own me k (Some enter) =
-    gather-missing n V (comm_of enter) (instance_of own k (comm_of enter)) (needs enter (members_in n own (comm_of enter)) me) (members_in n own (comm_of enter))
+    gather-missing n V (comm_of enter) (instance_of own k (comm_of enter)) (needs enter (members_for_rank n own (comm_of enter)) me) (members_for_rank n own (comm_of enter))
     ∙ made-missing comm n own me k enter (inputs_of n V me own k enter)
 
 message-missing : (n : ℕ) (V : ℕ → View) (source start : ℕ) (o : Option Call) → start_at (V source) start ≡ o
-    → first_missing n V (Start source start ∷ []) ≡ missing_in (message_from source start o)
+    → first_missing n V (Start source start ∷ []) ≡ missing_in (filled_message source start o)
 message-missing n V source start None e = rw e
 message-missing n V source start (Some (Send comm dest tag ints sync)) e = rw e
 message-missing n V source start (Some (Post comm from tag room)) e = rw e
@@ -156,7 +156,7 @@ took-missing (Err m) = refl
 
 -- filled is Err of the first that the entry rests on and that is not there
 pub filled-missing : (n : ℕ) (V : ℕ → View) (own : View) (me : ℕ) (call : Call) (entry : Entry)
-    → first_missing n V (rests n me own call entry) ≡ missing_in (filled n V me own call entry)
+    → first_missing n V (rests n me own call entry) ≡ missing_in (filled_reply n V me own call entry)
 filled-missing n V own me call EntrySent = refl
 filled-missing n V own me call Posted = refl
 filled-missing n V own me call EntryEntered = refl

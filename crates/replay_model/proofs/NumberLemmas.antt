@@ -10,15 +10,15 @@ use Rattle.run_model.proofs.Prefixes.{Begins}
 use Rattle.run_model.proofs.Views.{option_cases, test_cases}
 use Rattle.replay_model.specs.declared.step.Missing.{Missing}
 use Rattle.replay_model.specs.declared.step.Missing.TheVariants.{Member, Start}
-use Rattle.replay_model.specs.Rests.{is_enter_on, number_of, number_of_nth, one_more, rank_of}
+use Rattle.replay_model.specs.Rests.{is_enter_on, call_rested_on, number_of_nth, one_later, rank_rested_on}
 use Rattle.replay_model.proofs.MissingLemmas.{first_missing, is_there}
 
 -- A replay with a breakpoint has the cut.
-one_more-some : (o : Option ℕ) (p : ℕ) → one_more o ≡ Some p → (q : ℕ) × (o ≡ Some q) × (suc q ≡ p)
+one_more-some : (o : Option ℕ) (p : ℕ) → one_later o ≡ Some p → (q : ℕ) × (o ≡ Some q) × (suc q ≡ p)
 one_more-some None p h = absurd (cc)
 one_more-some (Some q) p h = (q, refl, cc)
 
--- a place of a beginning is the place in the whole
+-- a place of a prefix is the place in the whole
 nth-longer : (test : Call × Reply → Bool) (xs ys : View) (i p : ℕ) → number_of_nth test xs i ≡ Some p
     → (p < length xs) × (number_of_nth test (xs ++ ys) i ≡ Some p)
 nth-longer test [] ys i p h = absurd (cc)
@@ -48,7 +48,7 @@ nth-longer test (x ∷ xs) ys (suc i) p h =
           (omega arith, rw (t, later.1) (ap (λ x. Some x) number)))
     ]
 
--- a place below the length of a beginning is in it
+-- a place below the length of a prefix is in it
 nth-shorter : (test : Call × Reply → Bool) (xs ys : View) (i p : ℕ) → number_of_nth test (xs ++ ys) i ≡ Some p → p < length xs
     → number_of_nth test xs i ≡ Some p
 nth-shorter test [] ys i p h below = absurd (omega arith)
@@ -75,7 +75,7 @@ nth-shorter test (x ∷ xs) ys (suc i) p h below =
           rw (t, later) (ap (λ x. Some x) number))
     ]
 
-some_one : (o : Option ℕ) → is_some (one_more o) ≡ is_some o
+some_one : (o : Option ℕ) → is_some (one_later o) ≡ is_some o
 some_one None = refl
 some_one (Some i) = refl
 
@@ -113,12 +113,12 @@ enters_there comm number known ((call, reply) ∷ view) (suc i) =
     ]
 
 -- there, by places
-pub there_number : (n : ℕ) (V : ℕ → View) (x : Missing) → is_there n V x ≡ is_some (number_of V x)
+pub there_number : (n : ℕ) (V : ℕ → View) (x : Missing) → is_there n V x ≡ is_some (call_rested_on V x)
 there_number n V (Start source start) = starts_there (V source) start
 there_number n V (Member m comm instance) = enters_there comm 0 (known_first n comm) (V m) instance
 
-pub there_below : (n : ℕ) (V W : ℕ → View) (x : Missing) (p : ℕ) → Begins V W → number_of W x ≡ Some p
-    → p < length (V (rank_of x)) → is_there n V x ≡ true
+pub there_below : (n : ℕ) (V W : ℕ → View) (x : Missing) (p : ℕ) → Begins V W → call_rested_on W x ≡ Some p
+    → p < length (V (rank_rested_on x)) → is_there n V x ≡ true
 there_below n V W (Start source start) p begins h below =
     let prefix = begins source in
     let at = nth-shorter is_start (V source) prefix.0 start p (rw prefix.1 h) below in
@@ -129,7 +129,7 @@ there_below n V W (Member m comm instance) p begins h below =
     enters_there comm 0 (known_first n comm) (V m) instance ∙ rw at
 
 pub below_there : (n : ℕ) (V W : ℕ → View) (x : Missing) → Begins V W → is_there n V x ≡ true
-    → (p : ℕ) × (number_of W x ≡ Some p) × (p < length (V (rank_of x)))
+    → (p : ℕ) × (call_rested_on W x ≡ Some p) × (p < length (V (rank_rested_on x)))
 below_there n V W (Start source start) begins h =
     elim (option_cases (number_of_nth is_start (V source) start)) [
       | inl some ↦ (

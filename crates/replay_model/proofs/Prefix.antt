@@ -24,10 +24,10 @@ use Rattle.replay_model.specs.declared.step.Found.{Found}
 use Rattle.replay_model.specs.declared.step.Missing.{Missing}
 use Rattle.replay_model.specs.declared.step.Step.TheVariants.{AtBreak, Diverged, LogEnded, Replied}
 use Rattle.replay_model.specs.Breaks.{broken}
-use Rattle.replay_model.specs.Filling.{filled}
-use Rattle.replay_model.specs.Fits.{fits}
+use Rattle.replay_model.specs.Filling.{asker_of, filled_reply}
+use Rattle.replay_model.specs.Fits.{entry_fits}
 use Rattle.replay_model.specs.Laws.{BeginsRun, IsRunWith}
-use Rattle.replay_model.specs.Replays.{IsStep, Replays, Breakpoint, answer_of, entry_answer, is_break, judged}
+use Rattle.replay_model.specs.Replays.{IsReplayStep, Replays, Breakpoint, replay_answer, entry_answer, is_break, judged}
 use Rattle.replay_model.proofs.Filled.{filled-same}
 use Rattle.replay_model.proofs.Fillings.{Begins-within, filled_allowed, within, within_begins}
 
@@ -63,10 +63,10 @@ asked_in_run next n run rank view call reply rest all e = (in_run next n run ran
 -- over the whole run, the entry of a place stands for the recorded reply
 filled_in_run : (next : Next) (n : ℕ) (group : List ℕ) (run : List Event) (rank : ℕ) (view : View) (call : Call) (reply : Reply)
     → InRun next n run rank view call reply
-    → filled n (within group (view_of run)) rank view call (entry_of n group rank view call reply) ≡ Ok reply
+    → filled_reply n (within group (view_of run)) rank view call (entry_of n group rank view call reply) ≡ Ok reply
 filled_in_run next n group run rank view call reply at =
     let entry : Entry = entry_of n group rank view call reply in
-    let there : filled n (within group (view_of at.before)) rank view call entry ≡ Ok reply = rw at.view_is at (filled_allowed next n group at.before rank call reply at.allowed) in
+    let there : filled_reply n (within group (view_of at.before)) rank view call entry ≡ Ok reply = rw at.view_is at (filled_allowed next n group at.before rank call reply at.allowed) in
     (filled-same n (within group (view_of at.before)) (within group (view_of run)) view rank call entry reply (Begins-within group (view_of at.before) (view_of run) at.begins) there).fill ∙ there
 
 judged-replied : (me : ℕ) (own : View) (call : Call) (entry : Entry) (fill : Result Reply Missing) (found : Option Found) (reply : Reply)
@@ -76,25 +76,25 @@ judged-replied me own call entry (Ok other) (Some found) reply h = absurd (cc)
 judged-replied me own call entry (Ok other) None reply h = let e : other ≡ reply = cc in ap (λ x. Ok x) e
 
 pub entry-replied : (n : ℕ) (group : List ℕ) (V : ℕ → View) (own : View) (me : ℕ) (call : Call) (entry : Entry) (reply : Reply)
-    → entry_answer n group V me own call (Some entry) ≡ Replied reply → filled n V me own call entry ≡ Ok reply
+    → entry_answer group V (asker_of n me own) call (Some entry) ≡ Replied reply → filled_reply n V me own call entry ≡ Ok reply
 entry-replied n group V own me call entry reply h =
-    elim (test_cases (fits n group me own call entry)) [
-      | inl t ↦ judged-replied me own call entry (filled n V me own call entry) (broken n V me own call entry) reply (rw t at h)
+    elim (test_cases (entry_fits n group me own call entry)) [
+      | inl t ↦ judged-replied me own call entry (filled_reply n V me own call entry) (broken n V me own call entry) reply (rw t at h)
       | inr t ↦ absurd (let no : Diverged (record { rank = me; call_number = length own; entry = entry; call = call; found = None }) ≡ Replied reply = rw t at h in cc)
     ]
 
 pub answer-replied : (log : Log) (stop : Breakpoint) (V : ℕ → View) (own : View) (me : ℕ) (call : Call) (reply : Reply)
-    → answer_of log stop V me own call ≡ Replied reply
-    → entry_answer log.ranks log.group V me own call (slice_get (entries_for log.group log.lists me) (length own)) ≡ Replied reply
+    → replay_answer log stop V me own call ≡ Replied reply
+    → entry_answer log.group V (asker_of log.ranks me own) call (slice_get (entries_for log.group log.lists me) (length own)) ≡ Replied reply
 answer-replied log stop V own me call reply h =
     elim (test_cases (is_break stop me (length own))) [
       | inl t ↦ absurd (let no : AtBreak ≡ Replied reply = rw t at h in cc)
       | inr t ↦ rw t at h
     ]
 
--- one more event keeps what was replayed a beginning of the run
+-- one more event keeps what was replayed a prefix of the run
 next_event : (next : Next) (log : Log) (stop : Breakpoint) (run before : List Event) (event : Event) (rest : View)
-    → IsRunWith next log run → Begins (view_of before) (within log.group (view_of run)) → IsStep next log stop before event
+    → IsRunWith next log run → Begins (view_of before) (within log.group (view_of run)) → IsReplayStep next log stop before event
     → view_of before event.rank ++ rest ≡ view_of run event.rank
     → IsPrefixOf (view_of before event.rank ++ (event.call, event.reply) ∷ []) (view_of run event.rank)
 next_event next log stop run before event [] is begins step e =
@@ -112,16 +112,16 @@ next_event next log stop run before event ((call, reply) ∷ rest) is begins ste
     let entry : Entry = entry_of n group event.rank own event.call reply in
     let here = rw same_call at (entry_in_log log run event.rank own call reply rest is.same_log step.member (sym e)) in
     let h = answer-replied log stop (view_of before) own event.rank event.call event.reply step.reply in
-    let made_again : filled n (view_of before) event.rank own event.call entry ≡ Ok event.reply = entry-replied n group (view_of before) own event.rank event.call entry event.reply (rw here at h) in
-    let in_whole : filled n (within group (view_of run)) event.rank own event.call entry ≡ Ok event.reply = (filled-same n (view_of before) (within group (view_of run)) own event.rank event.call entry event.reply begins made_again).fill ∙ made_again in
-    let recorded : filled n (within group (view_of run)) event.rank own event.call entry ≡ Ok reply = rw same_call at (filled_in_run next n group run event.rank own call reply at) in
+    let made_again : filled_reply n (view_of before) event.rank own event.call entry ≡ Ok event.reply = entry-replied n group (view_of before) own event.rank event.call entry event.reply (rw here at h) in
+    let in_whole : filled_reply n (within group (view_of run)) event.rank own event.call entry ≡ Ok event.reply = (filled-same n (view_of before) (within group (view_of run)) own event.rank event.call entry event.reply begins made_again).fill ∙ made_again in
+    let recorded : filled_reply n (within group (view_of run)) event.rank own event.call entry ≡ Ok reply = rw same_call at (filled_in_run next n group run event.rank own call reply at) in
     let replies : Ok event.reply ≡ Ok reply = sym in_whole ∙ recorded in
     let same_reply : event.reply ≡ reply = cc in
     (rest, rw (append_assoc, ← same_call, same_reply) e)
 
 keeps : (next : Next) (log : Log) (stop : Breakpoint) (run : List Event) → IsRunWith next log run
     → (before : List Event) (event : Event) → Begins (view_of before) (within log.group (view_of run))
-    → IsStep next log stop before event → Begins (view_of (before ++ event ∷ [])) (within log.group (view_of run))
+    → IsReplayStep next log stop before event → Begins (view_of (before ++ event ∷ [])) (within log.group (view_of run))
 keeps next log stop run is before event begins step rank =
     elim (test_cases (event.rank == rank)) [
       | inl h ↦
@@ -133,11 +133,11 @@ keeps next log stop run is before event begins step rank =
       | inr h ↦ rw (view_of-other before event rank h) (begins rank)
     ]
 
--- each rank of the group has a beginning of its view in the run, and no other rank has any
+-- each rank of the group has a prefix of its view in the run, and no other rank has any
 pub Begins-run : (next : Next) (log : Log) (stop : Breakpoint) (run events : List Event) → IsRunWith next log run
     → Replays next log stop events → Begins (view_of events) (within log.group (view_of run))
 Begins-run next log stop run events is all =
-    Along-keeps (IsStep next log stop) (λ before. Begins (view_of before) (within log.group (view_of run))) (keeps next log stop run is) [] events (λ rank. (within log.group (view_of run) rank, refl)) all
+    Along-keeps (IsReplayStep next log stop) (λ before. Begins (view_of before) (within log.group (view_of run))) (keeps next log stop run is) [] events (λ rank. (within log.group (view_of run) rank, refl)) all
 
 pub begins_run : (next : Next) (log : Log) (stop : Breakpoint) (run events : List Event) → IsRunWith next log run
     → Replays next log stop events → Begins (view_of events) (view_of run)

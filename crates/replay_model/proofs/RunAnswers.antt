@@ -25,10 +25,10 @@ use Rattle.replay_model.specs.declared.step.Divergence.{Divergence}
 use Rattle.replay_model.specs.declared.step.Step.{Step}
 use Rattle.replay_model.specs.declared.step.Step.TheVariants.{AtBreak, Diverged, LogEnded, Replied, Wait}
 use Rattle.replay_model.specs.Breaks.{broken}
-use Rattle.replay_model.specs.Filling.{filled}
-use Rattle.replay_model.specs.Fits.{fits}
+use Rattle.replay_model.specs.Filling.{filled_reply}
+use Rattle.replay_model.specs.Fits.{entry_fits}
 use Rattle.replay_model.specs.Laws.{EachStand, HasNotDiverged, IsRunWith}
-use Rattle.replay_model.specs.Replays.{Replays, Breakpoint, answer_of, is_break}
+use Rattle.replay_model.specs.Replays.{Replays, Breakpoint, replay_answer, is_break}
 use Rattle.replay_model.specs.Stands.{stand_by, stand_where}
 use Rattle.replay_model.proofs.Answers.{answer_of-diverged, answer_of-replied}
 use Rattle.replay_model.proofs.Fillings.{Begins-within, filled_allowed, within}
@@ -38,15 +38,15 @@ use Rattle.replay_model.proofs.Unbroken.{unbroken}
 
 answer_from : (log : Log) (stop : Breakpoint) (V : ℕ → View) (own : View) (me : ℕ) (call : Call) (entry : Entry) (reply : Reply)
     → is_break stop me (length own) ≡ false → slice_get (entries_for log.group log.lists me) (length own) ≡ Some entry
-    → fits log.ranks log.group me own call entry ≡ true → filled log.ranks V me own call entry ≡ Ok reply
-    → broken log.ranks V me own call entry ≡ None → answer_of log stop V me own call ≡ Replied reply
+    → entry_fits log.ranks log.group me own call entry ≡ true → filled_reply log.ranks V me own call entry ≡ Ok reply
+    → broken log.ranks V me own call entry ≡ None → replay_answer log stop V me own call ≡ Replied reply
 answer_from log stop V own me call entry reply b e f fill broke = rw (b, e, f, fill, broke)
 
 -- over the events before it
 answer_here : (next : Next) (log : Log) (stop : Breakpoint) (run before after : List Event) (event : Event) → Lawful next
     → IsRunWith next log run → run ≡ before ++ event ∷ after → is_member log.group event.rank ≡ true
     → is_break stop event.rank (length (view_of before event.rank)) ≡ false
-    → answer_of log stop (within log.group (view_of before)) event.rank (view_of before event.rank) event.call ≡ Replied event.reply
+    → replay_answer log stop (within log.group (view_of before)) event.rank (view_of before event.rank) event.call ≡ Replied event.reply
 answer_here next log stop run before after event lawful is e member free =
     let n : ℕ = log.ranks in
     let group : List ℕ = log.group in
@@ -64,15 +64,15 @@ answer_here next log stop run before after event lawful is e member free =
 
 answer_at : (log : Log) (stop : Breakpoint) (V : ℕ → View) (before : List Event) (event : Event) (rank : ℕ) (view : View) (call : Call) (reply : Reply)
     → event.rank ≡ rank → view_of before rank ≡ view → event.call ≡ call → event.reply ≡ reply
-    → answer_of log stop V event.rank (view_of before event.rank) event.call ≡ Replied event.reply
-    → answer_of log stop V rank view call ≡ Replied reply
+    → replay_answer log stop V event.rank (view_of before event.rank) event.call ≡ Replied event.reply
+    → replay_answer log stop V rank view call ≡ Replied reply
 answer_at log stop V before event rank view call reply rank_is view_is call_is reply_is h = rw (← view_is, ← call_is, ← reply_is, ← rank_is) h
 
 -- and so over the whole run
 pub answer_whole : (next : Next) (log : Log) (stop : Breakpoint) (run : List Event) (rank : ℕ) (view : View) (call : Call) (reply : Reply) (rest : View)
     → Lawful next → IsRunWith next log run → is_member log.group rank ≡ true → view_of run rank ≡ view ++ (call, reply) ∷ rest
     → is_break stop rank (length view) ≡ false
-    → answer_of log stop (within log.group (view_of run)) rank view call ≡ Replied reply
+    → replay_answer log stop (within log.group (view_of run)) rank view call ≡ Replied reply
 answer_whole next log stop run rank view call reply rest lawful is member e free =
     let group : List ℕ = log.group in
     let at = place run rank view call reply rest e in
@@ -89,7 +89,7 @@ diverges_not : (next : Next) (log : Log) (stop : Breakpoint) (run events : List 
     → Lawful next → IsRunWith next log run → Begins (view_of events) (within log.group (view_of run))
     → is_member log.group rank ≡ true → view_of events rank ++ rest ≡ view_of run rank
     → next log.ranks rank (replies_in (view_of events rank)) ≡ Some call
-    → answer_of log stop (view_of events) rank (view_of events rank) call ≡ Diverged divergence → ⊥
+    → replay_answer log stop (view_of events) rank (view_of events rank) call ≡ Diverged divergence → ⊥
 diverges_not next log stop run events rank call divergence [] lawful is begins member e live h =
     let own : View = view_of events rank in
     let none = entry_past log run rank own is.same_log member (rw append-nil at (sym e)) in
@@ -105,7 +105,7 @@ diverges_not next log stop run events rank call divergence ((c, reply) ∷ rest)
     elim (test_cases (is_break stop rank (length own))) [
       | inl t ↦ (let no : AtBreak ≡ Diverged divergence = rw t at h in cc)
       | inr t ↦ (
-          let good : answer_of log stop (within log.group (view_of run)) rank own call ≡ Replied reply = rw same at (answer_whole next log stop run rank own c reply rest lawful is member (sym e) t) in
+          let good : replay_answer log stop (within log.group (view_of run)) rank own call ≡ Replied reply = rw same at (answer_whole next log stop run rank own c reply rest lawful is member (sym e) t) in
           let bad = answer_of-diverged log stop (view_of events) (within log.group (view_of run)) own rank call divergence begins h in
           let no : Replied reply ≡ Diverged divergence = sym good ∙ bad in cc)
     ]
@@ -113,7 +113,7 @@ diverges_not next log stop run events rank call divergence ((c, reply) ∷ rest)
 pub no_divergence : (next : Next) (log : Log) (stop : Breakpoint) (run events : List Event) (rank : ℕ) (call : Call) (divergence : Divergence)
     → Lawful next → IsRunWith next log run → Replays next log stop events → is_member log.group rank ≡ true
     → next log.ranks rank (replies_in (view_of events rank)) ≡ Some call
-    → answer_of log stop (view_of events) rank (view_of events rank) call ≡ Diverged divergence → ⊥
+    → replay_answer log stop (view_of events) rank (view_of events rank) call ≡ Diverged divergence → ⊥
 no_divergence next log stop run events rank call divergence lawful is all member live h =
     let begins = Begins-run next log stop run events is all in
     let found : IsPrefixOf (view_of events rank) (view_of run rank) = begins_run next log stop run events is all rank in
@@ -139,5 +139,5 @@ pub stands_agree : (next : Next) (variables : ℕ → ℕ → List Reply → Lis
     → Lawful next → IsRunWith next log run → Replays next log stop events
     → EachStand HasNotDiverged next variables log stop events
 stands_agree next variables log stop run events lawful is all rank stand member h =
-    stand_not (next log.ranks rank (replies_in (view_of events rank))) (variables log.ranks rank (replies_in (view_of events rank))) (answer_of log stop (view_of events) rank (view_of events rank)) stand
+    stand_not (next log.ranks rank (replies_in (view_of events rank))) (variables log.ranks rank (replies_in (view_of events rank))) (replay_answer log stop (view_of events) rank (view_of events rank)) stand
     (λ call divergence live answer. no_divergence next log stop run events rank call divergence lawful is all member live answer) h

@@ -18,14 +18,14 @@ use Rattle.mpi_call.specs.Acceptance.{source_agrees, tag_agrees}
 use Rattle.mpi_call.specs.Calls.{comm_of, makes}
 use Rattle.mpi_call.specs.Collectives.{is_member, is_uncoloured, needs}
 use Rattle.mpi_call.proofs.NeedsLemmas.{needs-uncoloured}
-use Rattle.run_model.specs.Communicators.{members_in}
+use Rattle.run_model.specs.Communicators.{members_for_rank}
 use Rattle.run_model.specs.Shape.{are_members, can_take, got_fits, gots_fit, has_count, has_shape, is_sized, rise_within}
 use Rattle.run_model.specs.Views.{View, start_at}
 use Rattle.run_model.proofs.Views.{test_cases}
 use Rattle.srr_entry.specs.declared.entry.Entry.TheVariants.{Took as EntryTook}
 use Rattle.srr_entry.specs.declared.entry.Marked.{Marked}
-use Rattle.srr_entry.specs.Entries.{all_within, entry_of, is_inner, mark_of, marks_of}
-use Rattle.replay_model.specs.Fits.{fits, mark_fits, marks_fit}
+use Rattle.srr_entry.specs.Entries.{all_within, entry_of, is_inner, mark_of_got, marks_of_items}
+use Rattle.replay_model.specs.Fits.{entry_fits, mark_fits, marks_fit}
 
 pub all_within-me : (group : List ℕ) (needed : ℕ → Bool) (me : ℕ) (members : List ℕ) → ((who : ℕ) → needed who ≡ (who == me))
     → is_member group me ≡ true → all_within group needed members ≡ true
@@ -46,7 +46,7 @@ all_within-me group needed me (m ∷ members) alone member =
 pub uncoloured_inner : (n : ℕ) (group : List ℕ) (me : ℕ) (own : View) (enter : Call) → is_member group me ≡ true
     → is_uncoloured enter ≡ true → is_inner n group me own (Some enter) ≡ true
 uncoloured_inner n group me own enter member un =
-    all_within-me group (needs enter (members_in n own (comm_of enter)) me) me (members_in n own (comm_of enter)) (λ who. needs-uncoloured enter (members_in n own (comm_of enter)) me who un) member
+    all_within-me group (needs enter (members_for_rank n own (comm_of enter)) me) me (members_for_rank n own (comm_of enter)) (λ who. needs-uncoloured enter (members_for_rank n own (comm_of enter)) me who un) member
 
 pub not_true : (b : Bool) → not b ≡ true → b ≡ false
 not_true true h = absurd (cc)
@@ -55,7 +55,7 @@ not_true false h = refl
 joined_fits : (n : ℕ) (group : List ℕ) (me : ℕ) (own : View) (k comm : ℕ) (kind : Kind) (root : Option ℕ) (op : Option Op) (count : ℕ) (ints : List ℤ) (given : List ℤ)
     → start_at own k ≡ Some (Enter comm kind root op count ints)
     → got_fits n me own (Some (Enter comm kind root op count ints)) (Joined given) ≡ true
-    → mark_fits n group me own (Some (Enter comm kind root op count ints)) (mark_of n group me own k (Joined given)) ≡ true
+    → mark_fits n group me own (Some (Enter comm kind root op count ints)) (mark_of_got n group me own k (Joined given)) ≡ true
 joined_fits n group me own k comm kind root op count ints given at h =
     let enter : Call = Enter comm kind root op count ints in
     let parts = and_parts (not (makes enter)) (is_sized n me own enter given) h in
@@ -67,7 +67,7 @@ joined_fits n group me own k comm kind root op count ints given at h =
 none_fits : (n : ℕ) (group : List ℕ) (me : ℕ) (own : View) (k c comm : ℕ) (kind : Kind) (root : Option ℕ) (op : Option Op) (count : ℕ) (ints : List ℤ)
     → is_member group me ≡ true → start_at own k ≡ Some (Enter comm kind root op count ints)
     → got_fits n me own (Some (Enter comm kind root op count ints)) (Made c []) ≡ true
-    → mark_fits n group me own (Some (Enter comm kind root op count ints)) (mark_of n group me own k (Made c [])) ≡ true
+    → mark_fits n group me own (Some (Enter comm kind root op count ints)) (mark_of_got n group me own k (Made c [])) ≡ true
 none_fits n group me own k c comm kind root op count ints member at h =
     let enter : Call = Enter comm kind root op count ints in
     let one = and_parts (makes enter) (is_uncoloured enter && (c == 0)) h in
@@ -78,12 +78,12 @@ none_fits n group me own k c comm kind root op count ints member at h =
 made_fits : (n : ℕ) (group : List ℕ) (me : ℕ) (own : View) (k c comm : ℕ) (kind : Kind) (root : Option ℕ) (op : Option Op) (count : ℕ) (ints : List ℤ) (m : ℕ) (members : List ℕ)
     → start_at own k ≡ Some (Enter comm kind root op count ints)
     → got_fits n me own (Some (Enter comm kind root op count ints)) (Made c (m ∷ members)) ≡ true
-    → mark_fits n group me own (Some (Enter comm kind root op count ints)) (mark_of n group me own k (Made c (m ∷ members))) ≡ true
+    → mark_fits n group me own (Some (Enter comm kind root op count ints)) (mark_of_got n group me own k (Made c (m ∷ members))) ≡ true
 made_fits n group me own k c comm kind root op count ints m members at h =
     let enter : Call = Enter comm kind root op count ints in
-    let one = and_parts (makes enter) (not (is_uncoloured enter) && (not (c == 0) && are_members n me enter (members_in n own (comm_of enter)) (m ∷ members))) h in
-    let two = and_parts (not (is_uncoloured enter)) (not (c == 0) && are_members n me enter (members_in n own (comm_of enter)) (m ∷ members)) one.1 in
-    let three = and_parts (not (c == 0)) (are_members n me enter (members_in n own (comm_of enter)) (m ∷ members)) two.1 in
+    let one = and_parts (makes enter) (not (is_uncoloured enter) && (not (c == 0) && are_members n me enter (members_for_rank n own (comm_of enter)) (m ∷ members))) h in
+    let two = and_parts (not (is_uncoloured enter)) (not (c == 0) && are_members n me enter (members_for_rank n own (comm_of enter)) (m ∷ members)) one.1 in
+    let three = and_parts (not (c == 0)) (are_members n me enter (members_for_rank n own (comm_of enter)) (m ∷ members)) two.1 in
     let real : (c == 0) ≡ false = not_true (c == 0) three.0 in
     elim (test_cases (is_inner n group me own (Some enter))) [
       | inl i ↦ rw (at, i, one.0, i, real, two.0)
@@ -93,7 +93,7 @@ made_fits n group me own k c comm kind root op count ints m members at h =
 -- what a start gave, in its shape, has a mark that fits
 mark_shaped : (n : ℕ) (group : List ℕ) (me : ℕ) (own : View) (k : ℕ) (start : Option Call) (got : Got) → is_member group me ≡ true
     → start_at own k ≡ start → got_fits n me own start got ≡ true
-    → mark_fits n group me own start (mark_of n group me own k got) ≡ true
+    → mark_fits n group me own start (mark_of_got n group me own k got) ≡ true
 mark_shaped n group me own k None got member at h = absurd (cc)
 mark_shaped n group me own k (Some (Send comm dest tag ints sync)) Sent member at h = refl
 mark_shaped n group me own k (Some (Post comm Null tag room)) Nothing member at h = refl
@@ -111,7 +111,7 @@ mark_shaped n group me own k (Some call) (Made c (m ∷ members)) member at h = 
 mark_shaped n group me own k (Some call) got member at h = absurd (cc)
 
 marks_shaped : (n : ℕ) (group : List ℕ) (me : ℕ) (own : View) (starts : List ℕ) (items : List Item) → is_member group me ≡ true
-    → gots_fit n me own starts items ≡ true → marks_fit n group me own starts (marks_of n group me own starts items) ≡ true
+    → gots_fit n me own starts items ≡ true → marks_fit n group me own starts (marks_of_items n group me own starts items) ≡ true
 marks_shaped n group me own starts [] member h = refl
 marks_shaped n group me own starts (item ∷ items) member h =
     let k : ℕ = slice_index starts item.index in
@@ -120,12 +120,12 @@ marks_shaped n group me own starts (item ∷ items) member h =
 
 -- marks
 pub marks_index : (n : ℕ) (group : List ℕ) (me : ℕ) (own : View) (starts : List ℕ) (items : List Item)
-    → map (λ (marked : Marked). marked.index) (marks_of n group me own starts items) ≡ map (λ (item : Item). item.index) items
+    → map (λ (marked : Marked). marked.index) (marks_of_items n group me own starts items) ≡ map (λ (item : Item). item.index) items
 marks_index n group me own starts [] = refl
 marks_index n group me own starts (item ∷ items) = ap (λ l. item.index ∷ l) (marks_index n group me own starts items)
 
 pub marks_length : (n : ℕ) (group : List ℕ) (me : ℕ) (own : View) (starts : List ℕ) (items : List Item)
-    → length (marks_of n group me own starts items) ≡ length (map (λ (item : Item). item.index) items)
+    → length (marks_of_items n group me own starts items) ≡ length (map (λ (item : Item). item.index) items)
 marks_length n group me own starts [] = refl
 marks_length n group me own starts (item ∷ items) = (let rest = marks_length n group me own starts items in omega (arith, rest))
 
@@ -146,16 +146,16 @@ take_shape n me own starts mode items h =
 
 took_fits : (n : ℕ) (group : List ℕ) (me : ℕ) (own : View) (starts : List ℕ) (mode : TakeMode) (items : List Item)
     → is_member group me ≡ true → TakeShape n me own starts mode items
-    → fits n group me own (Take starts mode) (EntryTook (marks_of n group me own starts items)) ≡ true
-unfolding fits
+    → entry_fits n group me own (Take starts mode) (EntryTook (marks_of_items n group me own starts items)) ≡ true
+unfolding entry_fits
 took_fits n group me own starts mode items member shape =
     let many : length (map (λ (item : Item). item.index) items) ≡ length items = length-map items (λ (item : Item). item.index) in
     rw (marks_length n group me own starts items, many, shape.count, marks_index n group me own starts items, shape.rising, shape.listed, marks_shaped n group me own starts items member shape.gots)
 
 -- the entry of a reply in shape fits
 pub fits_shaped : (n : ℕ) (group : List ℕ) (me : ℕ) (own : View) (call : Call) (reply : Reply) → is_member group me ≡ true
-    → has_shape n me own call reply ≡ true → fits n group me own call (entry_of n group me own call reply) ≡ true
-unfolding fits
+    → has_shape n me own call reply ≡ true → entry_fits n group me own call (entry_of n group me own call reply) ≡ true
+unfolding entry_fits
 fits_shaped n group me own call (Stopped halt) member h = h
 fits_shaped n group me own (Send comm dest tag ints sync) Done member h = refl
 fits_shaped n group me own (Post comm source tag room) Done member h = refl

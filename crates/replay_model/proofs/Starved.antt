@@ -23,10 +23,10 @@ use Rattle.replay_model.specs.declared.step.Missing.{Missing}
 use Rattle.replay_model.specs.declared.step.Missing.TheVariants.{Member, Start}
 use Rattle.replay_model.specs.declared.step.Step.{Step}
 use Rattle.replay_model.specs.declared.step.Step.TheVariants.{AtBreak, Diverged, LogEnded, Replied, Wait}
-use Rattle.replay_model.specs.Filling.{filled}
+use Rattle.replay_model.specs.Filling.{filled_reply}
 use Rattle.replay_model.specs.Laws.{IsRunWith, StarvesBehindABreak}
-use Rattle.replay_model.specs.Replays.{IsWholeReplay, Breakpoint, answer_of, is_break}
-use Rattle.replay_model.specs.Rests.{IsCutOff, follows, number_of, rank_of, rests, rests_on, stops}
+use Rattle.replay_model.specs.Replays.{IsWholeReplay, Breakpoint, replay_answer, is_break}
+use Rattle.replay_model.specs.Rests.{IsCutOff, follows, call_rested_on, rank_rested_on, rests, rests_on, stops}
 use Rattle.replay_model.specs.Stands.{stand_by, stand_of, stand_where}
 use Rattle.replay_model.proofs.Cut.{at_most, cut_law, cut_off_not, longer_of, nothing_more, same_front, same_length, split_at}
 use Rattle.replay_model.proofs.Fillings.{filled_allowed, within, within_begins}
@@ -57,7 +57,7 @@ pub record IsPlace (group : List ℕ) (V : ℕ → View) (stop : Breakpoint) : T
   pub below : number < length (V rank)
 
 there_member : (n : ℕ) (group : List ℕ) (V : ℕ → View) (missing : Missing) → is_there n (within group V) missing ≡ true
-    → is_member group (rank_of missing) ≡ true
+    → is_member group (rank_rested_on missing) ≡ true
 there_member n group V (Start source start) there =
     elim (test_cases (is_member group source)) [ inl i ↦ i | inr o ↦ (let no : false ≡ true = rw o at there in absurd (cc)) ]
 there_member n group V (Member m comm instance) there =
@@ -68,8 +68,8 @@ rests_before : (next : Next) (log : Log) (run before after : List Event) (rank :
     → IsRunWith next log run → run ≡ before ++ after → view_of run rank ≡ view ++ (call, reply) ∷ rest
     → length view < length (view_of before rank)
     → IsIn missing (rests log.ranks rank view call (entry_of log.ranks log.group rank view call reply))
-    → number_of (view_of run) missing ≡ Some number
-    → (is_member log.group (rank_of missing) ≡ true) × (number < length (view_of before (rank_of missing)))
+    → call_rested_on (view_of run) missing ≡ Some number
+    → (is_member log.group (rank_rested_on missing) ≡ true) × (number < length (view_of before (rank_rested_on missing)))
 rests_before next log run before after rank view rest call reply missing number is split e below among number_is =
     let n : ℕ = log.ranks in
     let group : List ℕ = log.group in
@@ -84,7 +84,7 @@ rests_before next log run before after rank view rest call reply missing number 
     let here : view_of before rank ≡ view ++ (call, reply) ∷ cut.rest = subst G same.1 (subst F same.0 cut.whole) in
     let at = in_run next n before rank view call reply cut.rest front here in
     let entry : Entry = entry_of n group rank view call reply in
-    let fill : filled n (within group (view_of at.before)) rank view call entry ≡ Ok reply = rw at.view_is at (filled_allowed next n group at.before rank call reply at.allowed) in
+    let fill : filled_reply n (within group (view_of at.before)) rank view call entry ≡ Ok reply = rw at.view_is at (filled_allowed next n group at.before rank call reply at.allowed) in
     let none : first_missing n (within group (view_of at.before)) (rests n rank view call entry) ≡ None = filled-missing n (within group (view_of at.before)) view rank call entry ∙ ap missing_in fill in
     let there = none_missing n (within group (view_of at.before)) (rests n rank view call entry) missing none among in
     let to_run : Begins (view_of before) (view_of run) = λ r. (view_of after r, sym (ap (λ l. view_of l r) split ∙ view_of-append before after r)) in
@@ -93,8 +93,8 @@ rests_before next log run before after rank view rest call reply missing number 
     let place = below_there n (within group (view_of at.before)) (view_of run) missing up there in
     let numbers : Some place.0 ≡ Some number = sym place.1 ∙ number_is in
     let equal : place.0 ≡ number = cc in
-    let H : ℕ → Type 0 = λ x. x < length (view_of before (rank_of missing)) in
-    (there_member n group (view_of at.before) missing there, subst H equal (longer_of (within group (view_of at.before) (rank_of missing)) (view_of before (rank_of missing)) place.0 (to_before (rank_of missing)) place.2))
+    let H : ℕ → Type 0 = λ x. x < length (view_of before (rank_rested_on missing)) in
+    (there_member n group (view_of at.before) missing there, subst H equal (longer_of (within group (view_of at.before) (rank_rested_on missing)) (view_of before (rank_rested_on missing)) place.0 (to_before (rank_rested_on missing)) place.2))
 
 -- a place is cut off only where the breakpoint stands no later in the run
 cut_off_before : (next : Next) (log : Log) (stop : Breakpoint) (run before after : List Event) (rank number : ℕ)
@@ -106,7 +106,7 @@ cut_off_before next log stop run before after _ _ is split member below (follows
     cut_off_before next log stop run before after rank number is split member (omega arith) off
 cut_off_before next log stop run before after _ _ is split member below (rests_on rank view rest call reply missing number inside e among number_is off) =
     let earlier = rests_before next log run before after rank view rest call reply missing number is split e below among number_is in
-    cut_off_before next log stop run before after (rank_of missing) number is split earlier.0 earlier.1 off
+    cut_off_before next log stop run before after (rank_rested_on missing) number is split earlier.0 earlier.1 off
 
 -- so the breakpoint's rank has all its calls before it
 free_before : (next : Next) (log : Log) (stop : Breakpoint) (run : List Event) (rank k j : ℕ) → IsRunWith next log run
@@ -151,7 +151,7 @@ at_break next variables log stop run events lawful is all at =
           let asked = asked_in_run next n run at.rank cut.front cut.here.0 cut.here.1 cut.rest is.is_run cut.whole in
           let live : next n at.rank (replies_in own) ≡ Some cut.here.0 = rw same asked in
           let stopped : is_break stop at.rank (length own) ≡ true = rw long t in
-          stand_at_break (next n at.rank (replies_in own)) (variables n at.rank (replies_in own)) (answer_of log stop (view_of events) at.rank own) cut.here.0 live (rw stopped))
+          stand_at_break (next n at.rank (replies_in own)) (variables n at.rank (replies_in own)) (replay_answer log stop (view_of events) at.rank own) cut.here.0 live (rw stopped))
     ]
 
 waits_by : (variables : List Variable) (step : Step) (missing : Missing) → stand_by variables step ≡ Some (Starved missing)
@@ -170,7 +170,7 @@ waits_where (Some call) variables answer missing h = (call, waits_by variables (
 -- a rank that has its whole view does not wait
 not_starved : (log : Log) (stop : Breakpoint) (run events : List Event) (rank : ℕ) (call : Call) (missing : Missing)
     → log ≡ log_of log.program log.ranks run log.group → is_member log.group rank ≡ true → view_of events rank ≡ view_of run rank
-    → answer_of log stop (view_of events) rank (view_of events rank) call ≡ Wait missing → ⊥
+    → replay_answer log stop (view_of events) rank (view_of events rank) call ≡ Wait missing → ⊥
 not_starved log stop run events rank call missing same_log member same h =
     let own : View = view_of events rank in
     let past = entry_past log run rank own same_log member (sym same) in
@@ -212,6 +212,6 @@ starved_law next variables log stop run events lawful is all rank missing member
           let each : (number : ℕ) → number < length (view_of run rank) → number < length (view_of events rank) = λ number below.
           (law rank number).1 (record { member = member; placed = below; free = λ off. never (cut_off_before next log stop run run [] rank number is nil member below off) }) in
           let same = nothing_more (view_of events rank) (view_of run rank) (begins_run next log stop run events is all.replays rank) (at_most (length (view_of run rank)) (length (view_of events rank)) each) in
-          let wait = waits_where (next log.ranks rank (replies_in (view_of events rank))) (variables log.ranks rank (replies_in (view_of events rank))) (answer_of log stop (view_of events) rank (view_of events rank)) missing starved in
+          let wait = waits_where (next log.ranks rank (replies_in (view_of events rank))) (variables log.ranks rank (replies_in (view_of events rank))) (replay_answer log stop (view_of events) rank (view_of events rank)) missing starved in
           absurd (not_starved log stop run events rank wait.0 missing is.same_log member same wait.1))
     ]

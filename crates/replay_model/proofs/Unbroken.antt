@@ -14,17 +14,17 @@ use Rattle.mpi_call.specs.Acceptance.{tag_agrees}
 use Rattle.mpi_call.specs.Calls.{comm_of, is_enter, makes}
 use Rattle.mpi_call.specs.Collectives.{agree, is_member, is_uncoloured, needs}
 use Rattle.run_model.specs.declared.event.Event.{Event}
-use Rattle.run_model.specs.Communicators.{Entered, enter_at, instance_of, members_in}
+use Rattle.run_model.specs.Communicators.{Entered, enter_at, instance_of, members_for_rank}
 use Rattle.run_model.specs.Pairs.{IsMatched}
 use Rattle.run_model.specs.Readiness.{AreGots, IsFrom, IsGot, IsMessage}
 use Rattle.run_model.specs.Shape.{got_fits, gots_fit, has_shape}
-use Rattle.run_model.specs.Views.{View, start_at, view_of}
+use Rattle.run_model.specs.Views.{View, moment_at, start_at, view_of}
 use Rattle.run_model.proofs.MemberLists.{same_ranks-refl}
 use Rattle.run_model.proofs.Instances.{SameInstances, other_enter, own_enter}
 use Rattle.run_model.proofs.Matched.{taken_pair}
 use Rattle.run_model.proofs.TrueReplies.{IsPeekedSend, IsTrueReply}
 use Rattle.run_model.proofs.Views.{test_cases}
-use Rattle.srr_entry.specs.Entries.{all_within, entry_of, is_inner, mark_of, marks_of}
+use Rattle.srr_entry.specs.Entries.{all_within, entry_of, is_inner, mark_of_got, marks_of_items}
 use Rattle.replay_model.specs.Breaks.{break_enter, break_inner, break_mark, break_marks, break_members, broken}
 use Rattle.replay_model.proofs.Fillings.{within}
 use Rattle.replay_model.proofs.ShapedFits.{take_shape}
@@ -78,7 +78,7 @@ inner_none : (n : ℕ) (group : List ℕ) (V : ℕ → View) (me k : ℕ) (enter
     → break_inner n (within group V) me (V me) k (start_at (V me) k) ≡ None
 inner_none n group V me k enter same at is inner =
     let C : ℕ = comm_of enter in
-    let M : List ℕ = members_in n (V me) C in
+    let M : List ℕ = members_for_rank n (V me) C in
     rw at
     (break_members-within group V n C (instance_of (V me) k C) enter M (needs enter M me) M inner
     ∙ inner_unbroken n V me k enter same at is)
@@ -87,7 +87,7 @@ inner_none n group V me k enter same at is inner =
 message_unbroken : (n : ℕ) (group : List ℕ) (before : List Event) (me k comm : ℕ) (source : Source) (tag : Tag) (room : ℕ) (got : Got)
     → IsMatched before → start_at (view_of before me) k ≡ Some (Post comm source tag room) → (is : IsMessage before me k got)
     → nat_le (length is.ints) room ≡ true
-    → break_mark n (within group (view_of before)) me (view_of before me) k (mark_of n group me (view_of before me) k got) ≡ None
+    → break_mark n (within group (view_of before)) me (view_of before me) k (mark_of_got n group me (view_of before me) k got) ≡ None
 message_unbroken n group before me k comm source tag room got matched at is short =
     let accepted = taken_pair before (me, k) is.send comm source tag room is.comm is.dest is.tag is.ints is.sync matched is.paired at is.sent in
     elim (test_cases (is_member group is.send.0)) [
@@ -110,7 +110,7 @@ message_short n own before me k comm (From other) tag room got is h =
 collected_unbroken : (n : ℕ) (group : List ℕ) (before : List Event) (me k : ℕ) (enter : Call) (got : Got) (m u : Bool) (inputs : List (List ℤ))
     → SameInstances n (view_of before) → start_at (view_of before me) k ≡ Some enter → is_enter enter ≡ true
     → IsFrom m u n me (view_of before me) enter inputs got
-    → break_mark n (within group (view_of before)) me (view_of before me) k (mark_of n group me (view_of before me) k got) ≡ None
+    → break_mark n (within group (view_of before)) me (view_of before me) k (mark_of_got n group me (view_of before me) k got) ≡ None
 collected_unbroken n group before me k enter got true true inputs same at is given =
     elim (test_cases (is_inner n group me (view_of before me) (start_at (view_of before me) k))) [
       | inl i ↦ rw (given, i)
@@ -129,8 +129,8 @@ collected_unbroken n group before me k enter got false u inputs same at is given
 
 mark_unbroken : (n : ℕ) (group : List ℕ) (before : List Event) (me k : ℕ) (start : Option Call) (got : Got) → IsMatched before
     → SameInstances n (view_of before) → start_at (view_of before me) k ≡ start
-    → IsGot n before me (view_of before me) k start got → got_fits n me (view_of before me) start got ≡ true
-    → break_mark n (within group (view_of before)) me (view_of before me) k (mark_of n group me (view_of before me) k got) ≡ None
+    → IsGot (moment_at n before me) k start got → got_fits n me (view_of before me) start got ≡ true
+    → break_mark n (within group (view_of before)) me (view_of before me) k (mark_of_got n group me (view_of before me) k got) ≡ None
 mark_unbroken n group before me k None got matched same at is fit = absurd is
 mark_unbroken n group before me k (Some (Send comm dest tag ints sync)) got matched same at is fit = rw is
 mark_unbroken n group before me k (Some (Post comm Null tag room)) got matched same at is fit = rw is
@@ -145,9 +145,9 @@ mark_unbroken n group before me k (Some (Trap fault)) got matched same at is fit
 mark_unbroken n group before me k (Some End) got matched same at is fit = absurd is
 
 marks_unbroken : (n : ℕ) (group : List ℕ) (before : List Event) (me : ℕ) (starts : List ℕ) (items : List Item) → IsMatched before
-    → SameInstances n (view_of before) → AreGots n before me (view_of before me) starts items
+    → SameInstances n (view_of before) → AreGots (moment_at n before me) starts items
     → gots_fit n me (view_of before me) starts items ≡ true
-    → break_marks n (within group (view_of before)) me (view_of before me) starts (marks_of n group me (view_of before me) starts items) ≡ None
+    → break_marks n (within group (view_of before)) me (view_of before me) starts (marks_of_items n group me (view_of before me) starts items) ≡ None
 marks_unbroken n group before me starts [] matched same are fit = refl
 marks_unbroken n group before me starts (item ∷ items) matched same are fit =
     let own : View = view_of before me in

@@ -13,7 +13,7 @@ use Rattle.mpi_call.specs.declared.reply.Got.TheVariants.{Message, Joined, Made}
 use Rattle.mpi_call.specs.declared.reply.Reply.{Reply}
 use Rattle.mpi_call.specs.declared.reply.Reply.TheVariants.{Done, Took}
 use Rattle.run_model.specs.declared.event.Event.{Event}
-use Rattle.run_model.specs.Views.{view_of}
+use Rattle.run_model.specs.Views.{moment_at, view_of}
 use Rattle.run_model.specs.Pairs.{pairs_of}
 use Rattle.run_model.specs.Due.{due}
 use Rattle.run_model.specs.Allowed.{can_go, flags_of, has_open}
@@ -24,9 +24,9 @@ use Rattle.srr_entry.specs.declared.entry.Entry.TheVariants.{Posted, Entered, En
 use Rattle.srr_entry.specs.Entries.{entries_from, log_of}
 use Rattle.replay_model.specs.declared.step.Missing.TheVariants.{Start, Member}
 use Rattle.replay_model.specs.declared.step.Step.TheVariants.{Replied, Wait, Diverged}
-use Rattle.replay_model.specs.Fits.{fits}
-use Rattle.replay_model.specs.Replays.{answer_of}
-use Rattle.replay_model.specs.Rests.{IsCutOff, follows, number_of, rests, rests_on, stops}
+use Rattle.replay_model.specs.Fits.{entry_fits}
+use Rattle.replay_model.specs.Replays.{replay_answer}
+use Rattle.replay_model.specs.Rests.{IsCutOff, follows, call_rested_on, rests, rests_on, stops}
 
 abbrev pub event : ℕ → Call → Reply → Option ℕ → Event
 event rank call reply mate = record { rank = rank; call = call; reply = reply; mate = mate }
@@ -64,32 +64,32 @@ pairs3 : pairs_of run3 ≡ ((1, 0), (2, 0)) ∷ ((0, 0), (2, 1)) ∷ []
 pairs3 = refl
 
 -- the first Take, after five events
-ready3 : flags_of 3 (take 5 run3) 2 (view_of (take 5 run3) 2) (0 ∷ []) ≡ true ∷ []
+ready3 : flags_of (moment_at 3 (take 5 run3) 2) (0 ∷ []) ≡ true ∷ []
 ready3 = refl
 
 due3 : due 3 (take 5 run3) 2 (view_of (take 5 run3) 2) (Take (0 ∷ []) All) ≡ None
 due3 = refl
 
 -- a replay that has made rank 2's first event and rank 1's
-answer3 : answer_of (log_of [] 3 run3 (0 ∷ 1 ∷ 2 ∷ [])) None (view_of (event 1 (Send 0 2 9 (pos 1 ∷ []) false) Done None ∷ event 2 receive Done None ∷ [])) 2 ((receive, Done) ∷ []) (Take (0 ∷ []) All) ≡ Replied (one 0 (Message 1 0 9 (pos 1 ∷ [])))
-unfolding fits
+answer3 : replay_answer (log_of [] 3 run3 (0 ∷ 1 ∷ 2 ∷ [])) None (view_of (event 1 (Send 0 2 9 (pos 1 ∷ []) false) Done None ∷ event 2 receive Done None ∷ [])) 2 ((receive, Done) ∷ []) (Take (0 ∷ []) All) ≡ Replied (one 0 (Message 1 0 9 (pos 1 ∷ [])))
+unfolding entry_fits
 answer3 = refl
 
 -- without the Send
-wait3 : answer_of (log_of [] 3 run3 (0 ∷ 1 ∷ 2 ∷ [])) None (view_of (event 2 receive Done None ∷ [])) 2 ((receive, Done) ∷ []) (Take (0 ∷ []) All) ≡ Wait (Start 1 0)
-unfolding fits
+wait3 : replay_answer (log_of [] 3 run3 (0 ∷ 1 ∷ 2 ∷ [])) None (view_of (event 2 receive Done None ∷ [])) 2 ((receive, Done) ∷ []) (Take (0 ∷ []) All) ≡ Wait (Start 1 0)
+unfolding entry_fits
 wait3 = refl
 
 -- the named start is a Send to another rank
-diverged16 : answer_of (log_of [] 3 run3 (0 ∷ 1 ∷ 2 ∷ [])) None (view_of (event 1 (Send 0 0 9 (pos 1 ∷ []) false) Done None ∷ event 2 receive Done None ∷ [])) 2 ((receive, Done) ∷ []) (Take (0 ∷ []) All) ≡ Diverged (record { rank = 2; call_number = 1; entry = marked 0 (Inside 1 0); call = Take (0 ∷ []) All; found = Some (record { rank = 1; start = 0; call = Send 0 0 9 (pos 1 ∷ []) false }) })
-unfolding fits
+diverged16 : replay_answer (log_of [] 3 run3 (0 ∷ 1 ∷ 2 ∷ [])) None (view_of (event 1 (Send 0 0 9 (pos 1 ∷ []) false) Done None ∷ event 2 receive Done None ∷ [])) 2 ((receive, Done) ∷ []) (Take (0 ∷ []) All) ≡ Diverged (record { rank = 2; call_number = 1; entry = marked 0 (Inside 1 0); call = Take (0 ∷ []) All; found = Some (record { rank = 1; start = 0; call = Send 0 0 9 (pos 1 ∷ []) false }) })
+unfolding entry_fits
 diverged16 = refl
 
 -- that Take rests on the Send whose message it took, rank 1's call 0
 rests3 : rests 3 2 ((receive, Done) ∷ []) (Take (0 ∷ []) All) (marked 0 (Inside 1 0)) ≡ Start 1 0 ∷ []
 rests3 = refl
 
-number3 : number_of (view_of run3) (Start 1 0) ≡ Some 0
+number3 : call_rested_on (view_of run3) (Start 1 0) ≡ Some 0
 number3 = refl
 
 -- a breakpoint before that Send cuts it off, and so the second receive, the call after it
@@ -149,15 +149,15 @@ uncoloured14 = refl
 abbrev run14 : List Event
 run14 = event 0 (split_by (pos 1)) Done None ∷ event 1 (split_by (negsuc 32765)) Done None ∷ event 2 (split_by (pos 1)) Done None ∷ event 0 (Take (0 ∷ []) All) (one 0 (Made 1 (0 ∷ 2 ∷ []))) None ∷ []
 
-answer14 : answer_of (log_of [] 3 run14 (0 ∷ 1 ∷ 2 ∷ [])) None (view_of (take 3 run14)) 0 (view_of (take 3 run14) 0) (Take (0 ∷ []) All) ≡ Replied (one 0 (Made 1 (0 ∷ 2 ∷ [])))
-unfolding fits
+answer14 : replay_answer (log_of [] 3 run14 (0 ∷ 1 ∷ 2 ∷ [])) None (view_of (take 3 run14)) 0 (view_of (take 3 run14) 0) (Take (0 ∷ []) All) ≡ Replied (one 0 (Made 1 (0 ∷ 2 ∷ [])))
+unfolding entry_fits
 answer14 = refl
 
 -- the new communicator rests on the Enters of all members, each its rank's call 0
 rests14 : rests 3 0 ((split_by (pos 1), Done) ∷ []) (Take (0 ∷ []) All) (marked 0 (MarkMade 1)) ≡ Member 0 0 0 ∷ Member 1 0 0 ∷ Member 2 0 0 ∷ []
 rests14 = refl
 
-number14 : number_of (view_of run14) (Member 2 0 0) ≡ Some 0
+number14 : call_rested_on (view_of run14) (Member 2 0 0) ≡ Some 0
 number14 = refl
 
 -- a barrier against a broadcast

@@ -8,7 +8,7 @@ use Rattle.mpi_call.specs.Calls.{comm_of, ints_of, listed_by}
 use Rattle.mpi_call.specs.Collectives.{agree, needs}
 use Rattle.run_model.specs.Lists.{same_ranks}
 use Rattle.run_model.specs.Views.{View, start_at}
-use Rattle.run_model.specs.Communicators.{Entered, enter_at, instance_of, members_in}
+use Rattle.run_model.specs.Communicators.{Entered, enter_at, instance_of, members_for_rank}
 use Rattle.srr_entry.specs.declared.entry.Mark.{Mark}
 use Rattle.srr_entry.specs.declared.entry.Mark.TheVariants.{Inside, Inner, Made as MarkMade}
 use Rattle.srr_entry.specs.declared.entry.Marked.{Marked}
@@ -52,9 +52,9 @@ break_members enter all needed find (m ∷ members) =
 
 abbrev pub break_inner : ℕ → (ℕ → View) → ℕ → View → ℕ → Option Call → Option Found
 break_inner n V me own k (Some enter) =
-    break_members enter (members_in n own (comm_of enter)) (needs enter (members_in n own (comm_of enter)) me)
+    break_members enter (members_for_rank n own (comm_of enter)) (needs enter (members_for_rank n own (comm_of enter)) me)
     (λ m. enter_at n (V m) (comm_of enter) (instance_of own k (comm_of enter)))
-    (members_in n own (comm_of enter))
+    (members_for_rank n own (comm_of enter))
 break_inner n V me own k None = None
 
 abbrev pub break_mark : ℕ → (ℕ → View) → ℕ → View → ℕ → Mark → Option Found

@@ -11,7 +11,7 @@ use Rattle.mpi_call.specs.declared.reply.Reply.TheVariants.{Done, Took, NotYet, 
 use Rattle.mpi_call.specs.Calls.{comm_of, listed_by}
 use Rattle.mpi_call.specs.Collectives.{members_made, result_of}
 use Rattle.run_model.specs.Views.{View, start_at}
-use Rattle.run_model.specs.Communicators.{instance_of, members_in}
+use Rattle.run_model.specs.Communicators.{instance_of, members_for_rank}
 use Rattle.run_model.specs.Inputs.{inputs_of}
 use Rattle.srr_entry.specs.declared.entry.Mark.{Mark}
 use Rattle.srr_entry.specs.declared.entry.Mark.TheVariants.{Sent as MarkSent, Nothing as MarkNothing, Inside, Outside, Inner, Outer, Made as MarkMade, MadeOutside}
@@ -22,19 +22,30 @@ use Rattle.replay_model.specs.declared.step.Missing.{Missing}
 use Rattle.replay_model.specs.declared.step.Missing.TheVariants.{Start, Member}
 
 -- a collective's result and a new communicator, from the inputs of the members that are needed
-abbrev pub joined : ℕ → ℕ → View → ℕ → Call → Result (List (List ℤ)) ℕ → Result Got Missing
-joined n me own k enter (Ok inputs) = Ok (Joined (result_of enter (members_in n own (comm_of enter)) inputs me))
-joined n me own k enter (Err m) = Err (Member m (comm_of enter) (instance_of own k (comm_of enter)))
+abbrev pub joined_result : ℕ → ℕ → View → ℕ → Call → Result (List (List ℤ)) ℕ → Result Got Missing
+joined_result n me own k enter (Ok inputs) = Ok (Joined (result_of enter (members_for_rank n own (comm_of enter)) inputs me))
+joined_result n me own k enter (Err m) = Err (Member m (comm_of enter) (instance_of own k (comm_of enter)))
 
-abbrev pub made_new : ℕ → ℕ → ℕ → View → ℕ → Call → Result (List (List ℤ)) ℕ → Result Got Missing
-made_new comm n me own k enter (Ok inputs) = Ok (Made comm (members_made enter (members_in n own (comm_of enter)) inputs me))
-made_new comm n me own k enter (Err m) = Err (Member m (comm_of enter) (instance_of own k (comm_of enter)))
+-- a rank that asks: how many ranks there are, the rank, and what it has seen
+pub record Asker : Type 0 where
+  pub ranks : ℕ
+  pub me : ℕ
+  pub own : View
+
+-- the asking rank with these parts
+abbrev pub asker_of : ℕ → ℕ → View → Asker
+asker_of n me own = record { ranks = n; me = me; own = own }
+
+-- the new communicator with this number that the asking rank's start k gave it
+abbrev pub made_new : ℕ → Asker → ℕ → Call → Result (List (List ℤ)) ℕ → Result Got Missing
+made_new comm asker k enter (Ok inputs) = Ok (Made comm (members_made enter (members_for_rank asker.ranks asker.own (comm_of enter)) inputs asker.me))
+made_new comm asker k enter (Err m) = Err (Member m (comm_of enter) (instance_of asker.own k (comm_of enter)))
 
 -- the message of a named start. Where that start is no Send any value serves: the entry breaks on it.
-abbrev pub message_from : ℕ → ℕ → Option Call → Result Got Missing
-message_from source start None = Err (Start source start)
-message_from source start (Some (Send comm dest tag ints sync)) = Ok (Message source start tag ints)
-message_from source start (Some call) = Ok Nothing
+abbrev pub filled_message : ℕ → ℕ → Option Call → Result Got Missing
+filled_message source start None = Err (Start source start)
+filled_message source start (Some (Send comm dest tag ints sync)) = Ok (Message source start tag ints)
+filled_message source start (Some call) = Ok Nothing
 
 abbrev pub peeked_from : ℕ → ℕ → Option Call → Result Reply Missing
 peeked_from source start None = Err (Start source start)
@@ -42,23 +53,23 @@ peeked_from source start (Some (Send comm dest tag ints sync)) = Ok (Peeked sour
 peeked_from source start (Some call) = Ok NotYet
 
 abbrev pub fill_inner : ℕ → (ℕ → View) → ℕ → View → ℕ → Option Call → Result Got Missing
-fill_inner n V me own k (Some enter) = joined n me own k enter (inputs_of n V me own k enter)
+fill_inner n V me own k (Some enter) = joined_result n me own k enter (inputs_of n V me own k enter)
 fill_inner n V me own k None = Ok Nothing
 
-abbrev pub fill_made : ℕ → ℕ → (ℕ → View) → ℕ → View → ℕ → Option Call → Result Got Missing
-fill_made comm n V me own k (Some enter) = made_new comm n me own k enter (inputs_of n V me own k enter)
-fill_made comm n V me own k None = Ok Nothing
+abbrev pub fill_made : ℕ → (ℕ → View) → Asker → ℕ → Option Call → Result Got Missing
+fill_made comm V asker k (Some enter) = made_new comm asker k enter (inputs_of asker.ranks V asker.me asker.own k enter)
+fill_made comm V asker k None = Ok Nothing
 
 -- what a mark for start k stands for, or the first that it rests on and that is not there
 abbrev pub fill_mark : ℕ → (ℕ → View) → ℕ → View → ℕ → Mark → Result Got Missing
 fill_mark n V me own k MarkSent = Ok Sent
 fill_mark n V me own k MarkNothing = Ok Nothing
-fill_mark n V me own k (Inside source start) = message_from source start (start_at (V source) start)
+fill_mark n V me own k (Inside source start) = filled_message source start (start_at (V source) start)
 fill_mark n V me own k (Outside source start tag ints) = Ok (Message source start tag ints)
 fill_mark n V me own k Inner = fill_inner n V me own k (start_at own k)
 fill_mark n V me own k (Outer ints) = Ok (Joined ints)
 fill_mark n V me own k (MarkMade comm) =
-    if comm == 0 then Ok (Made 0 []) else fill_made comm n V me own k (start_at own k)
+    if comm == 0 then Ok (Made 0 []) else fill_made comm V (asker_of n me own) k (start_at own k)
 fill_mark n V me own k (MadeOutside comm members) = Ok (Made comm members)
 
 abbrev pub push_item : ℕ → Result Got Missing → Result (List Item) Missing → Result (List Item) Missing
@@ -76,20 +87,20 @@ as_took (Ok items) = Ok (Took items)
 as_took (Err missing) = Err missing
 
 -- the reply of an entry, or the first that it rests on and that is not there, in item order and then in member order
-abbrev pub filled : ℕ → (ℕ → View) → ℕ → View → Call → Entry → Result Reply Missing
-filled n V me own call EntrySent = Ok Done
-filled n V me own call Posted = Ok Done
-filled n V me own call Entered = Ok Done
-filled n V me own call Ended = Ok Done
-filled n V me own call (EntryTook items) = as_took (fill_marks n V me own (listed_by call) items)
-filled n V me own call EntryNotYet = Ok NotYet
-filled n V me own call (PeekedInside source start) = peeked_from source start (start_at (V source) start)
-filled n V me own call (PeekedOutside source start tag count) = Ok (Peeked source start tag count)
-filled n V me own call (EntryStopped halt) = Ok (Stopped halt)
+abbrev pub filled_reply : ℕ → (ℕ → View) → ℕ → View → Call → Entry → Result Reply Missing
+filled_reply n V me own call EntrySent = Ok Done
+filled_reply n V me own call Posted = Ok Done
+filled_reply n V me own call Entered = Ok Done
+filled_reply n V me own call Ended = Ok Done
+filled_reply n V me own call (EntryTook items) = as_took (fill_marks n V me own (listed_by call) items)
+filled_reply n V me own call EntryNotYet = Ok NotYet
+filled_reply n V me own call (PeekedInside source start) = peeked_from source start (start_at (V source) start)
+filled_reply n V me own call (PeekedOutside source start tag count) = Ok (Peeked source start tag count)
+filled_reply n V me own call (EntryStopped halt) = Ok (Stopped halt)
 
 -- what is missing where no reply can be made
 abbrev pub missing_of : {A : Type 0} → Result A Missing → Option Missing
-missing_of (Ok filled) = None
+missing_of (Ok filled_reply) = None
 missing_of (Err missing) = Some missing
 
 -- the needed member that has not entered yet

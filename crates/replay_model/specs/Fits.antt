@@ -8,7 +8,7 @@ use Rattle.mpi_call.specs.Acceptance.{source_agrees, tag_agrees}
 use Rattle.mpi_call.specs.Calls.{comm_of, is_enter, makes}
 use Rattle.mpi_call.specs.Collectives.{is_uncoloured}
 use Rattle.run_model.specs.Views.{View, start_at}
-use Rattle.run_model.specs.Communicators.{members_in}
+use Rattle.run_model.specs.Communicators.{members_for_rank}
 use Rattle.run_model.specs.Shape.{are_members, can_take, halt_fits, has_count, is_sized, is_test, rise_within}
 use Rattle.srr_entry.specs.declared.entry.Mark.{Mark}
 use Rattle.srr_entry.specs.declared.entry.Mark.TheVariants.{Sent as MarkSent, Nothing as MarkNothing, Inside, Outside, Inner, Outer, Made as MarkMade, MadeOutside}
@@ -36,7 +36,7 @@ mark_fits n group me own (Some enter) (MarkMade comm) =
 mark_fits n group me own (Some enter) (MadeOutside comm members) =
     makes enter
     && (not (is_inner n group me own (Some enter))
-    && (not (comm == 0) && are_members n me enter (members_in n own (comm_of enter)) members))
+    && (not (comm == 0) && are_members n me enter (members_for_rank n own (comm_of enter)) members))
 mark_fits n group me own start mark = false
 
 abbrev pub marks_fit : ℕ → List ℕ → ℕ → View → List ℕ → List Marked → Bool
@@ -45,21 +45,21 @@ marks_fit n group me own starts (marked ∷ marks) =
     mark_fits n group me own (start_at own (slice_index starts marked.index)) marked.mark && marks_fit n group me own starts marks
 
 -- an entry and the call that rank `me` makes after what it has seen. Abort and Trap fit a Stopped entry alone.
-unfoldable pub fits : ℕ → List ℕ → ℕ → View → Call → Entry → Bool
-fits n group me own call (EntryStopped halt) = halt_fits me call halt
-fits n group me own (Send comm dest tag ints sync) EntrySent = true
-fits n group me own (Post comm source tag room) Posted = true
-fits n group me own (Enter comm kind root op count ints) Entered = true
-fits n group me own End Ended = true
-fits n group me own (Take starts mode) EntryNotYet = is_test mode
-fits n group me own (Peek comm source tag wait) EntryNotYet = not wait
-fits n group me own (Peek comm from tag wait) (PeekedInside source start) = source_agrees from source
-fits n group me own (Peek comm from tag wait) (PeekedOutside source start t count) = source_agrees from source && tag_agrees tag t
-fits n group me own (Take starts mode) (EntryTook marks) =
+unfoldable pub entry_fits : ℕ → List ℕ → ℕ → View → Call → Entry → Bool
+entry_fits n group me own call (EntryStopped halt) = halt_fits me call halt
+entry_fits n group me own (Send comm dest tag ints sync) EntrySent = true
+entry_fits n group me own (Post comm source tag room) Posted = true
+entry_fits n group me own (Enter comm kind root op count ints) Entered = true
+entry_fits n group me own End Ended = true
+entry_fits n group me own (Take starts mode) EntryNotYet = is_test mode
+entry_fits n group me own (Peek comm source tag wait) EntryNotYet = not wait
+entry_fits n group me own (Peek comm from tag wait) (PeekedInside source start) = source_agrees from source
+entry_fits n group me own (Peek comm from tag wait) (PeekedOutside source start t count) = source_agrees from source && tag_agrees tag t
+entry_fits n group me own (Take starts mode) (EntryTook marks) =
     has_count mode (length starts) (length marks)
     && (rise_within 0 (length starts) (map (λ (marked : Marked). marked.index) marks)
     && (list_all (λ k. can_take own k) starts && marks_fit n group me own starts marks))
-fits n group me own call entry = false
+entry_fits n group me own call entry = false
 
 -- a start that is there is an Enter
 abbrev pub IsEnterAt : View → ℕ → Type 0

@@ -25,7 +25,7 @@ pub record IsRunWith (next : Next) (log : Log) (run : List Event) : Type 0 where
   pub is_run : IsRun next log.ranks run
   pub same_log : log ≡ log_of log.program log.ranks run log.group
 
--- no rank outside the group has taken a step, and each rank of it has a beginning of its calls, replies and output in the run
+-- no rank outside the group has taken a step, and each rank of it has a prefix of its calls, replies and output in the run
 pub record BeginsRun (output : Output) (log : Log) (events run : List Event) : Type 0 where
   pub alone : (rank : ℕ) → is_member log.group rank ≡ false → view_of events rank ≡ []
   pub views : (rank : ℕ) → is_member log.group rank ≡ true → IsPrefixOf (view_of events rank) (view_of run rank)
@@ -36,7 +36,7 @@ pub record HasAllOf (output : Output) (log : Log) (events run : List Event) : Ty
   pub views : (rank : ℕ) → is_member log.group rank ≡ true → view_of events rank ≡ view_of run rank
   pub outputs : (rank : ℕ) → is_member log.group rank ≡ true → printed_of output log.ranks events rank ≡ printed_of output log.ranks run rank
 
--- whatever the order of the group's ranks: at every moment of a replay each rank has a beginning of what it has in the run, and no
+-- whatever the order of the group's ranks: at every moment of a replay each rank has a prefix of what it has in the run, and no
 -- other rank has taken a step; a replay that can go no further has all of it
 pub record ShowsInEveryOrder (next : Next) (output : Output) (log : Log) (run : List Event) : Type 0 where
   pub moments : (events : List Event) → Replays next log None events → BeginsRun output log events run
@@ -46,8 +46,8 @@ abbrev pub HasNotDiverged : Stand → Type 0
 HasNotDiverged stand = (divergence : Divergence) → stand ≡ Diverged divergence → ⊥
 
 -- it has come to the end of its program or of its log
-abbrev pub IsDone : Stand → Type 0
-IsDone stand = (stand ≡ Ended) ⊎ (stand ≡ LogEnded)
+abbrev pub IsStandAtEnd : Stand → Type 0
+IsStandAtEnd stand = (stand ≡ Ended) ⊎ (stand ≡ LogEnded)
 
 -- the stand of each rank of the group, where it has one
 abbrev pub EachStand : (Stand → Type 0) → Next → (ℕ → ℕ → List Reply → List Variable) → Log → Breakpoint → List Event → Type 0
@@ -73,7 +73,7 @@ pub record IsReplayOfRun (output : Output) (log : Log) (stop : Breakpoint) (run 
   pub starved : (missing : Missing) → Contains replayed.ends (Starved missing) → (standing : List Variable) × Contains replayed.ends (AtBreak standing)
   pub views : stop ≡ None → (rank : ℕ) → is_member log.group rank ≡ true → view_of replayed.events.events rank ≡ view_of run rank
   pub outputs : stop ≡ None → replayed.outputs ≡ map (printed_of output log.ranks run) log.group
-  pub ends : stop ≡ None → All IsDone replayed.ends
+  pub ends : stop ≡ None → All IsStandAtEnd replayed.ends
 
 -- beside every run with its log
 abbrev pub IsReplayOfEveryRun : Next → Output → Log → Breakpoint → Replayed → Type 0

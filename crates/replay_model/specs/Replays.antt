@@ -13,8 +13,8 @@ use Rattle.replay_model.specs.declared.step.Found.{Found}
 use Rattle.replay_model.specs.declared.step.Missing.{Missing}
 use Rattle.replay_model.specs.declared.step.Step.{Step}
 use Rattle.replay_model.specs.declared.step.Step.TheVariants.{Replied, Wait, LogEnded, AtBreak, Diverged}
-use Rattle.replay_model.specs.Fits.{fits}
-use Rattle.replay_model.specs.Filling.{filled}
+use Rattle.replay_model.specs.Fits.{entry_fits}
+use Rattle.replay_model.specs.Filling.{Asker, asker_of, filled_reply}
 use Rattle.replay_model.specs.Breaks.{broken}
 
 -- a rank and the number of the call that it stops before
@@ -35,47 +35,49 @@ judged me own call entry (Err missing) found = Wait missing
 judged me own call entry (Ok reply) (Some found) = diverged me own call entry (Some found)
 judged me own call entry (Ok reply) None = Replied reply
 
-abbrev pub entry_answer : ℕ → List ℕ → (ℕ → View) → ℕ → View → Call → Option Entry → Step
-entry_answer n group V me own call None = LogEnded
-entry_answer n group V me own call (Some entry) =
-    if fits n group me own call entry
-    then judged me own call entry (filled n V me own call entry) (broken n V me own call entry)
-    else diverged me own call entry None
+-- the answer to the asking rank's call by an entry, or at the log's end
+abbrev pub entry_answer : List ℕ → (ℕ → View) → Asker → Call → Option Entry → Step
+entry_answer group V asker call None = LogEnded
+entry_answer group V asker call (Some entry) =
+    if entry_fits asker.ranks group asker.me asker.own call entry
+    then judged asker.me asker.own call entry (filled_reply asker.ranks V asker.me asker.own call entry)
+    (broken asker.ranks V asker.me asker.own call entry)
+    else diverged asker.me asker.own call entry None
 
 -- the answer to rank `me`'s call: at its breakpoint, at its log's end, or by its next entry
-abbrev pub answer_of : Log → Breakpoint → (ℕ → View) → ℕ → View → Call → Step
-answer_of log stop V me own call =
+abbrev pub replay_answer : Log → Breakpoint → (ℕ → View) → ℕ → View → Call → Step
+replay_answer log stop V me own call =
     if is_break stop me (length own) then AtBreak
-    else entry_answer log.ranks log.group V me own call (slice_get (entries_for log.group log.lists me) (length own))
+    else entry_answer log.group V (asker_of log.ranks me own) call (slice_get (entries_for log.group log.lists me) (length own))
 
 -- an answer that makes no event and copies nothing
-abbrev pub takes_none : Step → Bool
-takes_none (Replied reply) = false
-takes_none (Diverged divergence) = false
-takes_none step = true
+abbrev pub copies_nothing : Step → Bool
+copies_nothing (Replied reply) = false
+copies_nothing (Diverged divergence) = false
+copies_nothing step = true
 
 -- the event that a reply makes
-abbrev pub event_of : ℕ → Call → Reply → Event
-event_of rank call reply = record { rank = rank; call = call; reply = reply; mate = None }
+abbrev pub replied_event : ℕ → Call → Reply → Event
+replied_event rank call reply = record { rank = rank; call = call; reply = reply; mate = None }
 
 -- the events after an answer
 abbrev pub events_after : List Event → ℕ → Call → Step → List Event
-events_after events rank call (Replied reply) = events ++ event_of rank call reply ∷ []
+events_after events rank call (Replied reply) = events ++ replied_event rank call reply ∷ []
 events_after events rank call step = events
 
 -- an event of a rank of the group: its program's next call, answered by the log's next entry
-pub record IsStep (next : Next) (log : Log) (stop : Breakpoint) (before : List Event) (event : Event) : Type 0 where
+pub record IsReplayStep (next : Next) (log : Log) (stop : Breakpoint) (before : List Event) (event : Event) : Type 0 where
   pub member : is_member log.group event.rank ≡ true
   pub call : next log.ranks event.rank (replies_in (view_of before event.rank)) ≡ Some event.call
-  pub reply : answer_of log stop (view_of before) event.rank (view_of before event.rank) event.call ≡ Replied event.reply
+  pub reply : replay_answer log stop (view_of before) event.rank (view_of before event.rank) event.call ≡ Replied event.reply
   pub mate : event.mate ≡ None
 
 abbrev pub Replays : Next → Log → Breakpoint → List Event → Type 0
-Replays next log stop events = Along (IsStep next log stop) [] events
+Replays next log stop events = Along (IsReplayStep next log stop) [] events
 
 -- no rank of the group has a step
 abbrev pub IsExhausted : Next → Log → Breakpoint → List Event → Type 0
-IsExhausted next log stop events = (event : Event) → IsStep next log stop events event → ⊥
+IsExhausted next log stop events = (event : Event) → IsReplayStep next log stop events event → ⊥
 
 -- a replay that can go no further
 pub record IsWholeReplay (next : Next) (log : Log) (stop : Breakpoint) (events : List Event) : Type 0 where

@@ -6,7 +6,7 @@ use Rattle.mpi_call.specs.Calls.{comm_of, listed_by}
 use Rattle.mpi_call.specs.Collectives.{is_member, needs}
 use Rattle.mpi_call.specs.Lists.{IsIn}
 use Rattle.run_model.specs.Views.{View, is_start, start_at}
-use Rattle.run_model.specs.Communicators.{instance_of, is_on, members_in}
+use Rattle.run_model.specs.Communicators.{instance_of, is_on, members_for_rank}
 use Rattle.srr_entry.specs.declared.entry.Entry.{Entry}
 use Rattle.srr_entry.specs.declared.entry.Entry.TheVariants.{Took, PeekedInside}
 use Rattle.srr_entry.specs.declared.entry.Mark.{Mark}
@@ -28,7 +28,7 @@ rests_members comm instance needed (m ∷ members) =
 abbrev pub rests_enter : ℕ → ℕ → View → ℕ → Option Call → List Missing
 rests_enter n me own k None = []
 rests_enter n me own k (Some enter) =
-    rests_members (comm_of enter) (instance_of own k (comm_of enter)) (needs enter (members_in n own (comm_of enter)) me) (members_in n own (comm_of enter))
+    rests_members (comm_of enter) (instance_of own k (comm_of enter)) (needs enter (members_for_rank n own (comm_of enter)) me) (members_for_rank n own (comm_of enter))
 
 -- a message from inside the group rests on its Send, a collective result from inside on the Enters that it needs. (That of an
 -- undefined colour needs the rank's own Enter alone, an earlier call of the rank.)
@@ -50,36 +50,36 @@ rests n me own call (Took marks) = rests_marks n me own (listed_by call) marks
 rests n me own call (PeekedInside source start) = Start source start ∷ []
 rests n me own call entry = []
 
-abbrev pub one_more : Option ℕ → Option ℕ
-one_more None = None
-one_more (Some number) = Some (suc number)
+abbrev pub one_later : Option ℕ → Option ℕ
+one_later None = None
+one_later (Some number) = Some (suc number)
 
 -- the call number of the i-th call of a view that passes a test, from 0
 abbrev pub number_of_nth : (Call × Reply → Bool) → View → ℕ → Option ℕ
 number_of_nth test [] i = None
-number_of_nth test (seen ∷ view) zero = if test seen then Some 0 else one_more (number_of_nth test view zero)
+number_of_nth test (seen ∷ view) zero = if test seen then Some 0 else one_later (number_of_nth test view zero)
 number_of_nth test (seen ∷ view) (suc i) =
-    if test seen then one_more (number_of_nth test view i) else one_more (number_of_nth test view (suc i))
+    if test seen then one_later (number_of_nth test view i) else one_later (number_of_nth test view (suc i))
 
 -- an Enter on the communicator
 abbrev pub is_enter_on : ℕ → Call × Reply → Bool
 is_enter_on comm seen = if is_start seen then is_on comm seen.0 else false
 
 -- the rank and the call number of what an entry rests on
-abbrev pub rank_of : Missing → ℕ
-rank_of (Start source start) = source
-rank_of (Member m comm instance) = m
+abbrev pub rank_rested_on : Missing → ℕ
+rank_rested_on (Start source start) = source
+rank_rested_on (Member m comm instance) = m
 
-abbrev pub number_of : (ℕ → View) → Missing → Option ℕ
-number_of V (Start source start) = number_of_nth is_start (V source) start
-number_of V (Member m comm instance) = number_of_nth (is_enter_on comm) (V m) instance
+abbrev pub call_rested_on : (ℕ → View) → Missing → Option ℕ
+call_rested_on V (Start source start) = number_of_nth is_start (V source) start
+call_rested_on V (Member m comm instance) = number_of_nth (is_enter_on comm) (V m) instance
 
 -- a call of a rank, by number, is the breakpoint, or comes after a call of the rank that is cut off, or is of the group and
 -- rests on one. V is what each rank has seen in the run.
 pub data IsCutOff (n : ℕ) (group : List ℕ) (V : ℕ → View) (stop : Breakpoint) : ℕ → ℕ → Type 0 where
   stops : (rank number : ℕ) → is_break stop rank number ≡ true → IsCutOff n group V stop rank number
   follows : (rank number : ℕ) → IsCutOff n group V stop rank number → IsCutOff n group V stop rank (suc number)
-  rests_on : (rank : ℕ) (view rest : View) (call : Call) (reply : Reply) (missing : Missing) (number : ℕ) → is_member group rank ≡ true → V rank ≡ view ++ (call, reply) ∷ rest → IsIn missing (rests n rank view call (entry_of n group rank view call reply)) → number_of V missing ≡ Some number → IsCutOff n group V stop (rank_of missing) number → IsCutOff n group V stop rank (length view)
+  rests_on : (rank : ℕ) (view rest : View) (call : Call) (reply : Reply) (missing : Missing) (number : ℕ) → is_member group rank ≡ true → V rank ≡ view ++ (call, reply) ∷ rest → IsIn missing (rests n rank view call (entry_of n group rank view call reply)) → call_rested_on V missing ≡ Some number → IsCutOff n group V stop (rank_rested_on missing) number → IsCutOff n group V stop rank (length view)
 
 -- the cut of a breakpoint: the group's places that it does not cut off
 pub record IsInCut (n : ℕ) (group : List ℕ) (V : ℕ → View) (stop : Breakpoint) (rank number : ℕ) : Type 0 where

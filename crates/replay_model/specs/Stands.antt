@@ -12,7 +12,7 @@ use Rattle.replay_model.specs.declared.step.Step.TheVariants.{Replied, Wait, Log
 use Rattle.replay_model.specs.declared.replayed.Stand.{Stand}
 use Rattle.replay_model.specs.declared.replayed.Stand.TheVariants.{Ended, LogEnded as StandLogEnded, AtBreak as StandAtBreak, Diverged as StandDiverged, Starved}
 use Rattle.replay_model.specs.declared.replayed.Replayed.{Replayed}
-use Rattle.replay_model.specs.Replays.{Breakpoint, Replays, IsExhausted, answer_of}
+use Rattle.replay_model.specs.Replays.{Breakpoint, Replays, IsExhausted, replay_answer}
 
 -- the stand of a live rank by the answer to its next call; none where it has a step
 abbrev pub stand_by : List Variable → Step → Option Stand
@@ -32,7 +32,7 @@ abbrev pub stand_of : Next → (ℕ → ℕ → List Reply → List Variable) �
 stand_of next variables log stop events rank =
     stand_where (next log.ranks rank (replies_in (view_of events rank)))
     (variables log.ranks rank (replies_in (view_of events rank)))
-    (answer_of log stop (view_of events) rank (view_of events rank))
+    (replay_answer log stop (view_of events) rank (view_of events rank))
 
 -- a whole replay: its events replay the log in order and can go no further; each rank's output and stand are the program's
 pub record IsReplayed (next : Next) (output : Output) (variables : ℕ → ℕ → List Reply → List Variable) (log : Log) (stop : Breakpoint) (replayed : Replayed) : Type 0 where

@@ -3,7 +3,7 @@
 ghost use Rattle.std.specs.Prelude.{◌≡◌, ℕ, List, Option, None};
 ghost use Rattle.run_model.specs.declared.event.Event.{Event};
 ghost use Rattle.run_model.specs.Views.{view_of};
-ghost use Rattle.replay_model.specs.Laws.{BeginsRun, EachStand, HasAllOf, HasNotDiverged, HasTheCut, IsDone, IsRunWith, ShowsInEveryOrder, StarvesBehindABreak};
+ghost use Rattle.replay_model.specs.Laws.{BeginsRun, EachStand, HasAllOf, HasNotDiverged, HasTheCut, IsStandAtEnd, IsRunWith, ShowsInEveryOrder, StarvesBehindABreak};
 ghost use Rattle.replay_model.specs.Replays.{IsWholeReplay, Replays};
 ghost use Rattle.replay_model.specs.Stands.{stand_of};
 ghost use Rattle.srr_entry.specs.Outputs.{printed_of};
@@ -12,7 +12,7 @@ use run_model::history::History;
 use run_model::program::Program;
 use srr_entry::log::Log;
 
-/// The prefix law: at every moment of a replay each rank of the group has a beginning of what it has in each run with this
+/// The prefix law: at every moment of a replay each rank of the group has a prefix of what it has in each run with this
 /// log, no other rank has a step, and no stand is Diverged.
 pub fn begins_every_run<P: Program>(
     program: &P,
@@ -35,11 +35,11 @@ pub fn has_all_of_every_run<P: Program>(
 )
     requires { IsWholeReplay (P.next program.now) log.now stop.now events.now.events }
     ensures all { stop.now ≡ None → (run : List Event) → IsRunWith (P.next program.now) log.now run → HasAllOf (P.output program.now) log.now events.now.events run }
-    ensures stands { stop.now ≡ None → (run : List Event) → IsRunWith (P.next program.now) log.now run → EachStand IsDone (P.next program.now) (P.variables program.now) log.now stop.now events.now.events }
+    ensures stands { stop.now ≡ None → (run : List Event) → IsRunWith (P.next program.now) log.now run → EachStand IsStandAtEnd (P.next program.now) (P.variables program.now) log.now stop.now events.now.events }
 {}
 
 /// Replay in any order: every replay of this log without a breakpoint, whatever the order of its ranks, shows each run with
-/// this log, at every moment a beginning and in the end all of it.
+/// this log, at every moment a prefix and in the end all of it.
 pub fn every_order_shows_every_run<P: Program>(program: &P, log: &Log)
     ensures shows { (run : List Event) → IsRunWith (P.next program.now) log.now run → ShowsInEveryOrder (P.next program.now) (P.output program.now) log.now run }
 {}

@@ -1,12 +1,9 @@
 //! What a replay gives.
-ghost use Rattle.std.specs.Prelude.{◌≡◌, ◌++◌, ◌∷◌, [], OnOk, IfErr, OnErr};
-
 use crate::step::{Divergence, Missing};
+use listed::Listed;
 use mpi_call::lists::Ranks;
 use run_model::history::History;
 use run_model::lists::{Outputs, Variables};
-use std::alloc::{AllocFailed, Global};
-use std::marker::Model;
 
 /// Where a rank stands when no rank can go on.
 #[derive(Drop)]
@@ -24,46 +21,7 @@ pub enum Stand {
 }
 
 /// Where some ranks stand, in order; contracts see a list.
-#[derive(Drop)]
-pub struct Stands {
-    values: Vec<Stand>,
-}
-
-impl Model for Stands {
-    ghost use Rattle.std.specs.Prelude.{List};
-    ghost use Rattle.replay_model.specs.declared.replayed.Stand.{Stand};
-
-    ghost Value = { List Stand };
-
-    ghost view = { λ s. s.values.items };
-}
-
-impl Stands {
-    /// The empty list.
-    pub fn new(alloc: Global) -> Self
-        ensures { result ≡ [] }
-    {
-        Stands {
-            values: Vec::new(alloc),
-        }
-    }
-
-    /// Adds a stand at the end. Out of memory, it comes back and nothing has changed.
-    pub fn push(&mut self, value: Stand) -> Result<(), AllocFailed<Stand>>
-        ensures ok { OnOk result (self.new ≡ self.old ++ value ∷ []) }
-        ensures err { OnErr result (self.new ≡ self.old) }
-        ensures back { IfErr result (λ refused. refused.value ≡ value) }
-    {
-        self.values.push(value)
-    }
-
-    /// The stands in order.
-    pub fn as_slice(&self) -> &[Stand]
-        ensures { result.now ≡ self.now }
-    {
-        &self.values
-    }
-}
+pub type Stands = Listed<Stand>;
 
 /// A whole replay of one group.
 #[derive(Drop)]
@@ -79,43 +37,4 @@ pub struct Replayed {
 }
 
 /// The replays of some groups, in order; contracts see a list.
-#[derive(Drop)]
-pub struct Replays {
-    values: Vec<Replayed>,
-}
-
-impl Model for Replays {
-    ghost use Rattle.std.specs.Prelude.{List};
-    ghost use Rattle.replay_model.specs.declared.replayed.Replayed.{Replayed};
-
-    ghost Value = { List Replayed };
-
-    ghost view = { λ s. s.values.items };
-}
-
-impl Replays {
-    /// The empty list.
-    pub fn new(alloc: Global) -> Self
-        ensures { result ≡ [] }
-    {
-        Replays {
-            values: Vec::new(alloc),
-        }
-    }
-
-    /// Adds a replay at the end. Out of memory, it comes back and nothing has changed.
-    pub fn push(&mut self, value: Replayed) -> Result<(), AllocFailed<Replayed>>
-        ensures ok { OnOk result (self.new ≡ self.old ++ value ∷ []) }
-        ensures err { OnErr result (self.new ≡ self.old) }
-        ensures back { IfErr result (λ refused. refused.value ≡ value) }
-    {
-        self.values.push(value)
-    }
-
-    /// The replays in order.
-    pub fn as_slice(&self) -> &[Replayed]
-        ensures { result.now ≡ self.now }
-    {
-        &self.values
-    }
-}
+pub type Replays = Listed<Replayed>;

@@ -3,7 +3,7 @@ use Rattle.std.proofs.Common.{◌≡◌, ◌≤◌, ◌+◌, ◌-◌, ◌&&◌, 
 use Rattle.std.proofs.lemmas.Bool.{eq-eqb, eqb-true}
 use Rattle.replay_model.specs.Laws.{IsRunWith}
 use Rattle.replay_model.specs.Replays.{Breakpoint}
-use Rattle.replay_model.specs.Rests.{IsCutOff, follows, rank_of, rests_on, stops}
+use Rattle.replay_model.specs.Rests.{IsCutOff, follows, rank_rested_on, rests_on, stops}
 use Rattle.replay_model.proofs.Cut.{cut_law}
 use Rattle.run_model.specs.declared.event.Event.{Event}
 use Rattle.run_model.specs.Views.{Next, View, view_of}
@@ -38,7 +38,7 @@ more_off n group V at earlier later le _ _ (stops rank number t) =
 more_off n group V at earlier later le _ _ (follows rank number off) =
     follows rank number (more_off n group V at earlier later le rank number off)
 more_off n group V at earlier later le _ _ (rests_on rank view rest call reply missing number member e among number_is off) =
-    rests_on rank view rest call reply missing number member e among number_is (more_off n group V at earlier later le (rank_of missing) number off)
+    rests_on rank view rest call reply missing number member e among number_is (more_off n group V at earlier later le (rank_rested_on missing) number off)
 
 pub step_back : (n : ℕ) (group : List ℕ) (V : ℕ → View) → IsStepBack n group V
 step_back n group V at earlier later le rank number is =

@@ -5,10 +5,10 @@ use Rattle.std.specs.Borrow.{Bor}
 use Rattle.mpi_call.specs.declared.call.Call.{Call}
 use Rattle.mpi_call.specs.declared.reply.Reply.{Reply}
 use Rattle.run_model.specs.declared.event.Event.{Event}
-use Rattle.run_model.specs.Program.{IsSeen, IsViewOf, MayGive, Standing}
+use Rattle.run_model.specs.Program.{IsNextSeen, IsViewOf, MayGive, Standing}
 use Rattle.run_model.specs.Views.{Next, View}
 use Rattle.run_model.proofs.Along.{Along-back, Along-front}
-use Rattle.replay_views.specs.Got.{HasGot}
+use Rattle.replay_views.specs.inside.Got.{HasGot}
 
 -- what the events that are lent show
 abbrev pub seen_in : List (Bor Event) → View
@@ -33,8 +33,8 @@ pub may_give : {P : Type 0} (next : P → Next) (program : P) (n rank : ℕ) (be
 may_give next program n rank before left view call reply standing came parts got =
     let F : View → Type 0 = λ v. IsViewOf (next program) n rank v in
     let whole : IsViewOf (next program) n rank (before ++ (call, reply) ∷ left) = subst F (sym parts) came in
-    let front = Along-front (IsSeen (next program) n rank) [] before ((call, reply) ∷ left) whole in
-    let back = Along-back (IsSeen (next program) n rank) [] before ((call, reply) ∷ left) whole in
+    let front = Along-front (IsNextSeen (next program) n rank) [] before ((call, reply) ∷ left) whole in
+    let back = Along-back (IsNextSeen (next program) n rank) [] before ((call, reply) ∷ left) whole in
     record {
       view = before;
       call = call;

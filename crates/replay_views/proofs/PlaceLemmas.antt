@@ -8,17 +8,17 @@ use Rattle.run_model.specs.Lists.{world}
 use Rattle.run_model.specs.Views.{View, is_start, starts_of}
 use Rattle.run_model.proofs.StartLemmas.{starts_of-append}
 use Rattle.run_model.proofs.Views.{test_cases}
-use Rattle.replay_views.specs.Places.{Place, place_at, place_by, place_with, places_in, role_of}
+use Rattle.replay_views.specs.Places.{MessagePlace, place_at, place_of_seen, place_with, places_in_view, role_of}
 use Rattle.replay_views.proofs.GivenLemmas.{parts_more}
 use Rattle.replay_views.proofs.WatchLemmas.{calls_before}
 
 -- the places so far: of the calls before this number, which made so many starts
-pub record PlacedSoFar (name : Name) (rank : ℕ) (view left : View) (number made : ℕ) (first places : List Place) : Type 0 where
+pub record PlacedSoFar (name : Name) (rank : ℕ) (view left : View) (number made : ℕ) (first places : List MessagePlace) : Type 0 where
   pub before : View
   pub parts : before ++ left ≡ view
   pub count : number ≡ length before
   pub made_is : made ≡ length (starts_of before)
-  pub places_are : places ++ flat_map (place_at name rank view) (world (length left) number) ≡ first ++ places_in name rank view
+  pub places_are : places ++ flat_map (place_at name rank view) (world (length left) number) ≡ first ++ places_in_view name rank view
 
 seam : (before left : View) (seen : Call × Reply) → slice_get (before ++ seen ∷ left) (length before) ≡ Some seen
 seam [] left seen = refl
@@ -36,9 +36,9 @@ place_is name rank before left view number made call reply parts count made_is =
     let front = calls_before before ((call, reply) ∷ left) view number parts count in
     let here = call_at before left view number (call, reply) parts count in
     ap (λ (m : ℕ). place_with rank number (call, reply) (role_of name rank m (call, reply))) (made_is ∙ ap (λ (v : View). length (starts_of v)) (sym front))
-    ∙ ap (place_by name rank number (length (starts_of (take number view)))) (sym here)
+    ∙ ap (place_of_seen name rank number (length (starts_of (take number view)))) (sym here)
 
-pub placed_more : (name : Name) (rank : ℕ) (view left : View) (call : Call) (reply : Reply) (number more made made' : ℕ) (first places places' : List Place)
+pub placed_more : (name : Name) (rank : ℕ) (view left : View) (call : Call) (reply : Reply) (number more made made' : ℕ) (first places places' : List MessagePlace)
     → PlacedSoFar name rank view ((call, reply) ∷ left) number made first places
     → places' ≡ places ++ place_with rank number (call, reply) (role_of name rank made (call, reply)) → more ≡ number + 1
     → made' ≡ made + length (starts_of ((call, reply) ∷ [])) → PlacedSoFar name rank view left more made' first places'
@@ -55,17 +55,17 @@ placed_more name rank view left call reply number more made made' first places p
       count = omega (arith, length_is, count_is, more_is);
       made_is = omega (arith, starts, starts_length, before_is, made_is);
       places_are =
-          ap (λ (l : List Place). l ++ flat_map (place_at name rank view) (world (length left) more)) (places_is ∙ ap (λ (l : List Place). places ++ l) same)
+          ap (λ (l : List MessagePlace). l ++ flat_map (place_at name rank view) (world (length left) more)) (places_is ∙ ap (λ (l : List MessagePlace). places ++ l) same)
           ∙ append_assoc places (place_at name rank view number) (flat_map (place_at name rank view) (world (length left) more))
           ∙ ap (λ (m : ℕ). places ++ (place_at name rank view number ++ flat_map (place_at name rank view) (world (length left) m))) more_is
           ∙ so_far.places_are;
     }
 
-pub placed_none : (name : Name) (rank : ℕ) (view : View) (places : List Place) → PlacedSoFar name rank view view 0 0 places places
+pub placed_none : (name : Name) (rank : ℕ) (view : View) (places : List MessagePlace) → PlacedSoFar name rank view view 0 0 places places
 placed_none name rank view places = record { before = []; parts = refl; count = refl; made_is = refl; places_are = refl }
 
-pub placed_all : (name : Name) (rank : ℕ) (view : View) (number made : ℕ) (first places : List Place) → PlacedSoFar name rank view [] number made first places
-    → places ≡ first ++ places_in name rank view
+pub placed_all : (name : Name) (rank : ℕ) (view : View) (number made : ℕ) (first places : List MessagePlace) → PlacedSoFar name rank view [] number made first places
+    → places ≡ first ++ places_in_view name rank view
 placed_all name rank view number made first places so_far = sym (append-nil places) ∙ so_far.places_are
 
 -- a rank made no more starts than calls
@@ -78,7 +78,7 @@ few_starts (seen ∷ view) =
     ]
 
 -- there is room for one number more, and for one start
-pub number_room : (name : Name) (rank : ℕ) (view left : View) (number made : ℕ) (first places : List Place) → PlacedSoFar name rank view left number made first places
+pub number_room : (name : Name) (rank : ℕ) (view left : View) (number made : ℕ) (first places : List MessagePlace) → PlacedSoFar name rank view left number made first places
     → number + length left ≤ length view
 number_room name rank view left number made first places so_far =
     let all = ap length so_far.parts in
@@ -86,7 +86,7 @@ number_room name rank view left number made first places so_far =
     let count_is = so_far.count in
     omega (arith, all, length_is, count_is)
 
-pub made_room : (name : Name) (rank : ℕ) (view left : View) (number made : ℕ) (first places : List Place) → PlacedSoFar name rank view left number made first places
+pub made_room : (name : Name) (rank : ℕ) (view left : View) (number made : ℕ) (first places : List MessagePlace) → PlacedSoFar name rank view left number made first places
     → made + length left ≤ length view
 made_room name rank view left number made first places so_far =
     let few = few_starts so_far.before in

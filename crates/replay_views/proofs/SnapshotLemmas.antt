@@ -13,8 +13,8 @@ use Rattle.run_model.specs.Program.{Says, Standing}
 use Rattle.run_model.specs.Views.{Next, View, replies_in}
 use Rattle.replay_views.specs.declared.snapshot.Ahead.{Ahead}
 use Rattle.replay_views.specs.declared.snapshot.Snapshot.{Snapshot}
-use Rattle.replay_views.specs.Got.{HasGot}
-use Rattle.replay_views.specs.Snapshots.{ahead_of, last_of, snapshot_of, variables_by}
+use Rattle.replay_views.specs.inside.Got.{HasGot}
+use Rattle.replay_views.specs.Snapshots.{ahead_of, last_reply_in, snapshot_of, variables_by}
 use Rattle.replay_views.specs.Watching.{Variables}
 use Rattle.replay_views.proofs.GivenLemmas.{seen_in}
 
@@ -35,7 +35,7 @@ same_snapshot rank number number' ahead ahead' last last' found found' nn aa ll 
 pub snapshot_is : {P : Type 0} (next : P → Next) (variables : P → Variables) (first now after : Standing P) (rank number : ℕ) (view : View) (stand : Stand) (want : Want) (ahead : Ahead) (last : Option Reply) (found : List Variable)
     → first.rank ≡ rank → HasGot first.program first.ranks first.rank view now → after ≡ record now { asked = true } → Says want (next_in next now)
     → found ≡ variables_by (next_in next after) (variables_in variables after) → ((call : Option Call) → Says want call → ahead ≡ ahead_of stand call)
-    → last ≡ last_of (replies_in view) → number ≡ length view
+    → last ≡ last_reply_in (replies_in view) → number ≡ length view
     → record { rank = rank; number = number; ahead = ahead; last = last; variables = found } ≡ snapshot_of (next first.program) (variables first.program) first.ranks rank view stand
 snapshot_is next variables first now after rank number view stand want ahead last found rank_is got after_is says found_is ahead_is last_is number_is =
     same_snapshot rank number _ ahead _ last _ found _ number_is
@@ -57,10 +57,10 @@ replies_length [] = refl
 replies_length (event ∷ events) = ap suc (replies_length events)
 
 pub last_seen : (events : List (Bor Event)) (event : Bor Event) (reply : Reply) → Some event ≡ slice_get events (length events - 1) → reply ≡ event.now.reply
-    → Some reply ≡ last_of (replies_in (seen_in events))
+    → Some reply ≡ last_reply_in (replies_in (seen_in events))
 last_seen events event reply at is =
     ap Some is
     ∙ ap (option_map (λ (e : Bor Event). e.now.reply)) at
     ∙ sym (slice_get-map (λ (e : Bor Event). e.now.reply) events (length events - 1))
     ∙ ap (λ (k : ℕ). slice_get (replies_of events) (k - 1)) (sym (replies_length events))
-    ∙ ap last_of (sym (replies_are events))
+    ∙ ap last_reply_in (sym (replies_are events))

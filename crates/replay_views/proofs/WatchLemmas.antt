@@ -8,7 +8,7 @@ use Rattle.run_model.specs.Lists.{world}
 use Rattle.run_model.specs.Program.{Standing}
 use Rattle.run_model.specs.Views.{Next, View}
 use Rattle.replay_views.specs.declared.changes.Change.{Change}
-use Rattle.replay_views.specs.Got.{HasGot}
+use Rattle.replay_views.specs.inside.Got.{HasGot}
 use Rattle.replay_views.specs.Watching.{Values, Variables, change_at, change_between, changes_of, values_after, values_at, values_before}
 use Rattle.replay_views.proofs.GivenLemmas.{got_asked, got_more, got_none, parts_more}
 

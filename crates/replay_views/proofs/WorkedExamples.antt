@@ -9,7 +9,7 @@ use Rattle.mpi_call.specs.declared.reply.Got.TheVariants.{Message}
 use Rattle.mpi_call.specs.declared.reply.Reply.{Reply}
 use Rattle.mpi_call.specs.declared.reply.Reply.TheVariants.{Done, Took, Peeked}
 use Rattle.msg_races.specs.declared.names.Name.{Name}
-use Rattle.rank_watch.specs.Innermost.{innermost}
+use Rattle.rank_watch.specs.Innermost.{innermost_values}
 use Rattle.replay_model.specs.declared.replayed.Stand.TheVariants.{Ended, LogEnded, AtBreak}
 use Rattle.run_model.specs.declared.event.Event.{Event}
 use Rattle.run_model.specs.declared.lists.Variable.{Variable}
@@ -18,7 +18,7 @@ use Rattle.replay_views.specs.declared.changes.Change.{Change}
 use Rattle.replay_views.specs.declared.snapshot.Ahead.TheVariants.{Calls, Ended as HasEnded, LogEnded as HasLogEnded}
 use Rattle.replay_views.specs.declared.role.Role.{Role}
 use Rattle.replay_views.specs.declared.role.Role.TheVariants.{Sent, Found, Took as TookIt}
-use Rattle.replay_views.specs.Places.{Place, places_of}
+use Rattle.replay_views.specs.Places.{MessagePlace, places_of}
 use Rattle.replay_views.specs.Snapshots.{snapshot_of}
 use Rattle.replay_views.specs.Watching.{Values, Variables, changes_of}
 
@@ -31,10 +31,10 @@ abbrev standing : List Variable
 standing = variable 0 (codes "n") (pos 1) ∷ variable 1 (codes "m") (pos 2) ∷ variable 1 (codes "n") (pos 3) ∷ variable 1 (codes "k") (pos 4) ∷ []
 
 -- the last one of the name hides the one further out
-inner_is_told : innermost (codes "n") standing ≡ Some (pos 3 ∷ [])
+inner_is_told : innermost_values (codes "n") standing ≡ Some (pos 3 ∷ [])
 inner_is_told = refl
 
-none_of_the_name : innermost (codes "x") standing ≡ None
+none_of_the_name : innermost_values (codes "x") standing ≡ None
 none_of_the_name = refl
 
 -- ---- changes
@@ -101,7 +101,7 @@ events =
 abbrev name : ℕ → ℕ → Name
 name rank start = record { rank = rank; start = start }
 
-abbrev place : ℕ → ℕ → Role → Call → Reply → Place
+abbrev place : ℕ → ℕ → Role → Call → Reply → MessagePlace
 place rank number role call reply = record { rank = rank; number = number; role = role; call = call; reply = reply }
 
 sent_found_and_taken : places_of (name 1 1) events (0 ∷ 1 ∷ [])

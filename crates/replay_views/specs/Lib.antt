@@ -1,5 +1,5 @@
-pub mod Got
 pub mod Watching
 pub mod Snapshots
 pub mod Places
 pub mod Cuts
+pub mod inside

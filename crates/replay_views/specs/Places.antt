@@ -1,23 +1,23 @@
 -- The places at which a message is sent, found and taken.
-use Rattle.std.specs.Prelude.{ℕ, List, [], ◌∷◌, Option, Some, None, Bool, true, false, ◌&&◌, ◌==◌, if◌then◌else◌, flat_map, length, slice_get, take}
+use Rattle.std.specs.Prelude.{ℕ, List, [], ◌∷◌, Option, Some, None, Bool, false, ◌&&◌, ◌==◌, if◌then◌else◌, flat_map, length, slice_get, take}
 use Rattle.std.specs.List.{list_any}
 use Rattle.mpi_call.specs.declared.call.Call.{Call}
-use Rattle.mpi_call.specs.declared.call.Call.TheVariants.{Send}
 use Rattle.mpi_call.specs.declared.reply.Got.{Got}
 use Rattle.mpi_call.specs.declared.reply.Got.TheVariants.{Message}
 use Rattle.mpi_call.specs.declared.reply.Item.{Item}
 use Rattle.mpi_call.specs.declared.reply.Reply.{Reply}
 use Rattle.mpi_call.specs.declared.reply.Reply.TheVariants.{Done, Took as TookItems, Peeked}
+use Rattle.mpi_call.specs.Calls.{is_send}
 use Rattle.msg_races.specs.declared.names.Name.{Name}
 use Rattle.run_model.specs.declared.event.Event.{Event}
 use Rattle.run_model.specs.Lists.{world}
 use Rattle.run_model.specs.Views.{View, starts_of, view_of}
-use Rattle.replay_views.specs.declared.places.Place as lent
+use Rattle.replay_views.specs.declared.places.MessagePlace as lent
 use Rattle.replay_views.specs.declared.role.Role.{Role}
 use Rattle.replay_views.specs.declared.role.Role.TheVariants.{Sent, Found, Took}
 
 -- a place where a message is: a call of a rank, by its number, with its reply, and what it does with the message
-pub record Place : Type 0 where
+pub record MessagePlace : Type 0 where
   pub rank : ℕ
   pub number : ℕ
   pub role : Role
@@ -25,12 +25,8 @@ pub record Place : Type 0 where
   pub reply : Reply
 
 -- the same, of calls and replies that are lent
-abbrev pub place_view : lent.Place → Place
-place_view place = record { rank = place.rank; number = place.number; role = place.role; call = place.call.now; reply = place.reply.now }
-
-abbrev pub is_send : Call → Bool
-is_send (Send comm dest tag ints sync) = true
-is_send call = false
+abbrev pub message_place_view : lent.MessagePlace → MessagePlace
+message_place_view place = record { rank = place.rank; number = place.number; role = place.role; call = place.call.now; reply = place.reply.now }
 
 -- a completed start got the message of a name
 abbrev pub got_message : Name → Got → Bool
@@ -53,22 +49,22 @@ role_of name rank made (call, TookItems items) = if list_any (has_message name) 
 role_of name rank made (call, reply) = None
 
 -- the place, if the call does something with the message
-abbrev pub place_with : ℕ → ℕ → Call × Reply → Option Role → List Place
+abbrev pub place_with : ℕ → ℕ → Call × Reply → Option Role → List MessagePlace
 place_with rank number seen None = []
 place_with rank number seen (Some role) = (record { rank = rank; number = number; role = role; call = seen.0; reply = seen.1 }) ∷ []
 
-abbrev pub place_by : Name → ℕ → ℕ → ℕ → Option (Call × Reply) → List Place
-place_by name rank number made None = []
-place_by name rank number made (Some seen) = place_with rank number seen (role_of name rank made seen)
+abbrev pub place_of_seen : Name → ℕ → ℕ → ℕ → Option (Call × Reply) → List MessagePlace
+place_of_seen name rank number made None = []
+place_of_seen name rank number made (Some seen) = place_with rank number seen (role_of name rank made seen)
 
 -- the place at a call of a rank that has seen this, if the call does something with the message
-abbrev pub place_at : Name → ℕ → View → ℕ → List Place
-place_at name rank view number = place_by name rank number (length (starts_of (take number view))) (slice_get view number)
+abbrev pub place_at : Name → ℕ → View → ℕ → List MessagePlace
+place_at name rank view number = place_of_seen name rank number (length (starts_of (take number view))) (slice_get view number)
 
 -- the places of a rank, by the numbers of its calls
-abbrev pub places_in : Name → ℕ → View → List Place
-places_in name rank view = flat_map (place_at name rank view) (world (length view) 0)
+abbrev pub places_in_view : Name → ℕ → View → List MessagePlace
+places_in_view name rank view = flat_map (place_at name rank view) (world (length view) 0)
 
 -- the places of some ranks after some events, rank by rank
-abbrev pub places_of : Name → List Event → List ℕ → List Place
-places_of name events group = flat_map (λ rank. places_in name rank (view_of events rank)) group
+abbrev pub places_of : Name → List Event → List ℕ → List MessagePlace
+places_of name events group = flat_map (λ rank. places_in_view name rank (view_of events rank)) group

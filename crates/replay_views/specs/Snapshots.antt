@@ -19,8 +19,8 @@ ahead_of StandLogEnded (Some call) = LogEnded
 ahead_of stand (Some call) = Calls call
 
 -- the last reply, if there is one
-abbrev pub last_of : List Reply → Option Reply
-last_of replies = slice_get replies (length replies - 1)
+abbrev pub last_reply_in : List Reply → Option Reply
+last_reply_in replies = slice_get replies (length replies - 1)
 
 -- a rank that has ended has no variables
 abbrev pub variables_by : Option Call → List Variable → List Variable
@@ -35,7 +35,7 @@ snapshot_of next variables n rank view stand =
       rank = rank;
       number = length view;
       ahead = ahead_of stand (next n rank replies);
-      last = last_of replies;
+      last = last_reply_in replies;
       variables = variables_by (next n rank replies) (variables n rank replies);
     }
 

@@ -7,7 +7,7 @@ use Rattle.mpi_call.specs.declared.reply.Reply.{Reply}
 use Rattle.run_model.specs.declared.lists.Variable.{Variable}
 use Rattle.run_model.specs.Lists.{world}
 use Rattle.run_model.specs.Views.{Next, View, replies_in}
-use Rattle.rank_watch.specs.Innermost.{innermost}
+use Rattle.rank_watch.specs.Innermost.{innermost_values}
 use Rattle.replay_views.specs.declared.changes.Change.{Change}
 
 -- the variables that stand before a rank's next call, by the number of ranks, the rank and the replies that it got
@@ -17,7 +17,7 @@ Variables = ℕ → ℕ → List Reply → List Variable
 -- the values of a variable, if a call follows
 abbrev pub values_by : Option Call → List Variable → List ℕ → Option (List ℤ)
 values_by None variables name = None
-values_by (Some call) variables name = innermost name variables
+values_by (Some call) variables name = innermost_values name variables
 
 -- the values of the innermost variable of a name before the next call of a rank that got these replies; a rank that has ended has none
 abbrev pub values_after : Next → Variables → ℕ → ℕ → List ℕ → List Reply → Option (List ℤ)

@@ -1,6 +1,6 @@
 //! A rank that is given the replies that it got in a replay, once more.
 ghost use Rattle.std.specs.Prelude.{◌≡◌, ◌++◌, ◌∷◌, [], OnOk, false, map};
-ghost use Rattle.replay_views.specs.Got.{HasGot};
+ghost use Rattle.replay_views.specs.inside.Got.{HasGot};
 ghost use Rattle.run_model.specs.Program.{IsViewOf, MayGive};
 
 use run_model::event::Event;

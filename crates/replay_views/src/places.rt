@@ -1,6 +1,6 @@
 //! The places at which a message is sent, found and taken.
 ghost use Rattle.std.specs.Prelude.{◌≡◌, ◌++◌, ◌∷◌, [], ◌≤◌, IfOk, OnOk, length, map};
-ghost use Rattle.replay_views.specs.Places.{place_view, place_with, places_in, places_of, role_of};
+ghost use Rattle.replay_views.specs.Places.{message_place_view, place_with, places_in_view, places_of, role_of};
 ghost use Rattle.run_model.specs.Views.{starts_of};
 
 use crate::role::{Role, role_of};
@@ -14,7 +14,7 @@ use std::alloc::{AllocError, Global};
 
 /// A place where a message is: a call of a rank with its reply, and what it does with the message.
 #[derive(Clone, Copy)]
-pub struct Place<'a> {
+pub struct MessagePlace<'a> {
     pub rank: u8,
     /// The number of the call among the rank's calls.
     pub number: usize,
@@ -29,8 +29,8 @@ pub fn places_of<'a>(
     name: Name,
     by_rank: &ByRank<'a>,
     group: &[u8],
-) -> Result<Vec<Place<'a>>, AllocError>
-    ensures { IfOk result (λ places. map place_view places.items ≡ places_of name by_rank.now group.now) }
+) -> Result<Vec<MessagePlace<'a>>, AllocError>
+    ensures { IfOk result (λ places. map message_place_view places.items ≡ places_of name by_rank.now group.now) }
 {
     let mut places = Vec::new(alloc);
     let mut rest = group;
@@ -43,12 +43,12 @@ pub fn places_of<'a>(
 
 /// Adds the places of a rank that has seen these events.
 fn add_places<'a>(
-    places: &mut Vec<Place<'a>>,
+    places: &mut Vec<MessagePlace<'a>>,
     name: Name,
     rank: u8,
     own: &[&'a Event],
 ) -> Result<(), AllocError>
-    ensures { OnOk result (map place_view places.new.items ≡ map place_view places.old.items ++ places_in name rank (map (λ event. (event.now.call, event.now.reply)) own.now)) }
+    ensures { OnOk result (map message_place_view places.new.items ≡ map message_place_view places.old.items ++ places_in_view name rank (map (λ event. (event.now.call, event.now.reply)) own.now)) }
 {
     let mut number = 0;
     let mut made = 0;
@@ -64,17 +64,17 @@ fn add_places<'a>(
 
 /// Adds the place of a call, if it does something with the message.
 fn add_place<'a>(
-    places: &mut Vec<Place<'a>>,
+    places: &mut Vec<MessagePlace<'a>>,
     name: Name,
     rank: u8,
     number: usize,
     made: usize,
     event: &'a Event,
 ) -> Result<(), AllocError>
-    ensures { OnOk result (map place_view places.new.items ≡ map place_view places.old.items ++ place_with rank number (event.now.call, event.now.reply) (role_of name rank made (event.now.call, event.now.reply))) }
+    ensures { OnOk result (map message_place_view places.new.items ≡ map message_place_view places.old.items ++ place_with rank number (event.now.call, event.now.reply) (role_of name rank made (event.now.call, event.now.reply))) }
 {
     if let Some(role) = role_of(name, rank, made, &event.call, &event.reply) {
-        places.push(Place {
+        places.push(MessagePlace {
             rank,
             number,
             role,

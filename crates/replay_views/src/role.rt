@@ -1,7 +1,8 @@
 //! What a call of a rank does with a message.
 ghost use Rattle.std.specs.Prelude.{◌≡◌};
 ghost use Rattle.std.specs.List.{list_any};
-ghost use Rattle.replay_views.specs.Places.{has_message, is_send, role_of, sent_role};
+ghost use Rattle.mpi_call.specs.Calls.{is_send};
+ghost use Rattle.replay_views.specs.Places.{has_message, role_of, sent_role};
 
 use mpi_call::call::Call;
 use mpi_call::reply::{Got, Item, Reply};

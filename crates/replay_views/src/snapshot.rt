@@ -1,11 +1,12 @@
 //! Where a rank of a replay stands.
-ghost use Rattle.std.specs.Prelude.{◌≡◌, ◌++◌, ◌∷◌, [], IfErr, IfOk, OnErr, OnOk, Option, Some, map, true};
+ghost use Rattle.std.specs.Prelude.{◌≡◌, [], IfOk, Option, Some, map, true};
 ghost use Rattle.mpi_call.specs.declared.call.Call.{Call};
-ghost use Rattle.replay_views.specs.Snapshots.{ahead_of, last_of, snapshot_of, variables_by};
+ghost use Rattle.replay_views.specs.Snapshots.{ahead_of, last_reply_in, snapshot_of, variables_by};
 ghost use Rattle.run_model.specs.Program.{IsViewOf, Says};
 ghost use Rattle.run_model.specs.Views.{replies_in};
 
 use crate::given::catch_up;
+use listed::Listed;
 use mpi_call::call::Call;
 use mpi_call::reply;
 use mpi_call::reply::Reply;
@@ -13,8 +14,7 @@ use replay_model::replayed::Stand;
 use run_model::event::Event;
 use run_model::lists::Variables;
 use run_model::program::{Program, RankRun, Want};
-use std::alloc::{AllocError, AllocFailed, Global};
-use std::marker::Model;
+use std::alloc::{AllocError, Global};
 
 /// What is ahead of a rank.
 #[derive(Drop)]
@@ -41,46 +41,7 @@ pub struct Snapshot {
 }
 
 /// Where some ranks stand, in order; contracts see a list.
-#[derive(Drop)]
-pub struct Snapshots {
-    values: Vec<Snapshot>,
-}
-
-impl Model for Snapshots {
-    ghost use Rattle.std.specs.Prelude.{List};
-    ghost use Rattle.replay_views.specs.declared.snapshot.Snapshot.{Snapshot};
-
-    ghost Value = { List Snapshot };
-
-    ghost view = { λ s. s.values.items };
-}
-
-impl Snapshots {
-    /// The empty list.
-    pub fn new(alloc: Global) -> Self
-        ensures { result ≡ [] }
-    {
-        Snapshots {
-            values: Vec::new(alloc),
-        }
-    }
-
-    /// Adds a rank at the end. When out of memory, the error gives it back and nothing has changed.
-    pub fn push(&mut self, value: Snapshot) -> Result<(), AllocFailed<Snapshot>>
-        ensures ok { OnOk result (self.new ≡ self.old ++ value ∷ []) }
-        ensures err { OnErr result (self.new ≡ self.old) }
-        ensures back { IfErr result (λ refused. refused.value ≡ value) }
-    {
-        self.values.push(value)
-    }
-
-    /// The ranks in order.
-    pub fn as_slice(&self) -> &[Snapshot]
-        ensures { result.now ≡ self.now }
-    {
-        &self.values
-    }
-}
+pub type Snapshots = Listed<Snapshot>;
 
 /// Where a rank stands that has seen these events: `run` is the rank before its first call. Runs it once.
 pub fn snapshot_of<P: Program, R: RankRun<Of = P>>(
@@ -148,7 +109,7 @@ fn ahead_at(stand: &Stand, call: Call) -> Ahead
 
 /// A copy of the last reply of some events.
 fn last_reply(own: &[&Event]) -> Result<Option<Reply>, AllocError>
-    ensures { IfOk result (λ last. last ≡ last_of (replies_in (map (λ event. (event.now.call, event.now.reply)) own.now))) }
+    ensures { IfOk result (λ last. last ≡ last_reply_in (replies_in (map (λ event. (event.now.call, event.now.reply)) own.now))) }
 {
     match own.last() {
         None => Ok(None),

@@ -9,22 +9,22 @@ ghost use Rattle.run_model.specs.Choice.{choice};
 ghost use Rattle.run_model.specs.Communicators.{known_in};
 ghost use Rattle.run_model.specs.Pairs.{Name, name_at};
 ghost use Rattle.run_model.specs.Program.{IsInForm};
-ghost use Rattle.run_model.specs.Views.{items_taken, view_of};
+ghost use Rattle.run_model.specs.Views.{items_taken, moment_at, view_of};
 ghost use Rattle.match_core.specs.Starts.{is_message, is_peek, is_post, AreBelow, IsEarliest};
-ghost use Rattle.collectives.specs.Boards.{entered_by};
+ghost use Rattle.collectives.specs.Boards.{board_answer};
 ghost use Rattle.collectives.specs.declared.instances.Entered.TheVariants.{Disagrees as DisagreesWith};
 ghost use Rattle.match_core.specs.Histories.{IsAdded};
 ghost use Rattle.requests.specs.declared.requests.TakeAnswer.TheVariants.{Took};
-ghost use Rattle.requests.specs.Starts.{all_marked, found_in, name_in, row_of, with_row};
-ghost use Rattle.requests.specs.States.{at_first, with_rows, IsAbove, IsEntered, IsPaired, IsPosted, IsStarted, MayEnter, State};
+ghost use Rattle.requests.specs.Starts.{all_marked, found_in, name_at_position, row_of, with_row};
+ghost use Rattle.requests.specs.States.{first_state, with_rows, IsAbovePositions, IsEntered, IsPaired, IsPosted, IsStarted, MayEnter, MatchingState};
 ghost use Rattle.requests.specs.Taking.{answer_at, answer_in, hands_out, readiness_of, rows_at, rows_after, AreHandedOut};
-ghost use Rattle.requests.specs.Histories.{Answers, AnswersAt, IsIdle, IsReadiness, Knows, KnowsPosted, KnowsStarted, KnowsTaken, KnowsTakenAt};
+ghost use Rattle.requests.specs.Histories.{Answers, AnswersAt, IsIdleEvent, IsReadiness, KnowsHistory, KnowsPosted, KnowsStarted, KnowsTaken, KnowsTakenAt};
 
 use crate::answer::{answer, answer_at};
 use crate::complete::readiness;
 use crate::enter::{entered, joined, left};
 use crate::rows::{add_start, drop_start, mark_in, name_in, pair, put_name, reserve_to};
-use crate::start::{Name, Row};
+use crate::start::{RankAndStart, Row};
 use collectives::board::{Board, comm_of};
 use collectives::instances::Entered;
 use comms::communicators::Comms;
@@ -73,7 +73,7 @@ pub enum TakeAnswer {
 #[derive(Drop)]
 pub struct Requests {
     rows: Vec<Row>,
-    names: Vec<Option<Name>>,
+    names: Vec<Option<RankAndStart>>,
     matcher: Matcher,
     board: Board,
     comms: Comms,
@@ -81,9 +81,9 @@ pub struct Requests {
 }
 
 impl Model for Requests {
-    ghost use Rattle.requests.specs.States.{IsSound, State, table_of};
+    ghost use Rattle.requests.specs.States.{IsSound, MatchingState, table_of};
 
-    ghost Value = { State };
+    ghost Value = { MatchingState };
 
     ghost view = { λ s. record { table = table_of s.rows.items s.board s.comms; names = s.names.items; unpaired = s.matcher } };
 
@@ -93,8 +93,8 @@ impl Model for Requests {
 impl Requests {
     /// No starts of `ranks` ranks.
     pub fn new(alloc: Global, ranks: u8) -> Result<Self, AllocError>
-        ensures value { IfOk result (λ requests. requests ≡ at_first ranks) }
-        ensures knows { IfOk result (λ requests. Knows ranks [] requests) }
+        ensures value { IfOk result (λ requests. requests ≡ first_state ranks) }
+        ensures knows { IfOk result (λ requests. KnowsHistory ranks [] requests) }
     {
         Ok(Requests {
             rows: empty_rows(alloc, ranks)?,
@@ -112,14 +112,14 @@ impl Requests {
     pub fn start(&mut self, at: u32, rank: u8, call: &Call) -> Result<Started, AllocError>
         requires kind { IsTrue (is_starting call.now) }
         requires enter { is_enter call.now ≡ true → MayEnter self.old.table.comms rank call.now }
-        requires position { IsAbove at self.old }
+        requires position { IsAbovePositions at self.old }
         requires rank { rank < length self.old.table.rows }
         ensures ok { IfOk result (λ started. IsStarted self.old self.new at rank call.now started) }
         ensures err { OnErr result (self.new ≡ self.old) }
 
         // An Enter that does not agree takes no memory.
-        ensures disagrees { (other : ℕ) → is_enter call.now ≡ true → entered_by self.old.table.stages rank call.now ≡ DisagreesWith other → IsOk result }
-        ensures knows { IfOk result (λ started. (n : ℕ) (events : List Event) → Knows n events self.old → at ≡ length events → IsInForm n rank (view_of events rank) call.now → KnowsStarted n events rank call.now started self.new) }
+        ensures disagrees { (other : ℕ) → is_enter call.now ≡ true → board_answer self.old.table.stages rank call.now ≡ DisagreesWith other → IsOk result }
+        ensures knows { IfOk result (λ started. (n : ℕ) (events : List Event) → KnowsHistory n events self.old → at ≡ length events → IsInForm n rank (view_of events rank) call.now → KnowsStarted n events rank call.now started self.new) }
     {
         match call {
             Call::Enter { .. } => self.enter(at, rank, call),
@@ -130,11 +130,11 @@ impl Requests {
     /// Adds a Send or Post. When out of memory, nothing has changed.
     fn message(&mut self, at: u32, rank: u8, call: &Call) -> Result<Started, AllocError>
         requires kind { IsTrue (is_message call.now) }
-        requires position { IsAbove at self.old }
+        requires position { IsAbovePositions at self.old }
         requires rank { rank < length self.old.table.rows }
         ensures ok { IfOk result (λ started. IsPaired self.old self.new at rank call.now started) }
         ensures err { OnErr result (self.new ≡ self.old) }
-        ensures knows { IfOk result (λ started. (n : ℕ) (events : List Event) → Knows n events self.old → at ≡ length events → KnowsStarted n events rank call.now started self.new) }
+        ensures knows { IfOk result (λ started. (n : ℕ) (events : List Event) → KnowsHistory n events self.old → at ≡ length events → KnowsStarted n events rank call.now started self.new) }
     {
         let copied = copy_of(call)?;
         reserve_to(&mut self.names, at)?;
@@ -158,11 +158,11 @@ impl Requests {
         sender: u8,
     ) -> Result<Option<u32>, AllocError>
         requires kind { IsTrue (is_post call.now) }
-        requires position { IsAbove at self.old }
+        requires position { IsAbovePositions at self.old }
         requires rank { rank < length self.old.table.rows }
         ensures ok { IfOk result (λ mate. IsPosted self.old self.new at rank call.now mate) }
         ensures err { OnErr result (self.new ≡ self.old) }
-        ensures knows { IfOk result (λ mate. (n : ℕ) (events : List Event) → Knows n events self.old → at ≡ length events → KnowsPosted n events rank call.now sender mate self.new) }
+        ensures knows { IfOk result (λ mate. (n : ℕ) (events : List Event) → KnowsHistory n events self.old → at ≡ length events → KnowsPosted (moment_at n events rank) call.now sender mate self.new) }
     {
         let copied = copy_of(call)?;
         reserve_to(&mut self.names, at)?;
@@ -180,12 +180,12 @@ impl Requests {
     fn enter(&mut self, at: u32, rank: u8, call: &Call) -> Result<Started, AllocError>
         requires kind { is_enter call.now ≡ true }
         requires may { MayEnter self.old.table.comms rank call.now }
-        requires position { IsAbove at self.old }
+        requires position { IsAbovePositions at self.old }
         requires rank { rank < length self.old.table.rows }
         ensures ok { IfOk result (λ started. IsEntered self.old self.new at rank call.now started) }
         ensures err { OnErr result (self.new ≡ self.old) }
-        ensures disagrees { (other : ℕ) → entered_by self.old.table.stages rank call.now ≡ DisagreesWith other → IsOk result }
-        ensures knows { IfOk result (λ started. (n : ℕ) (events : List Event) → Knows n events self.old → at ≡ length events → IsInForm n rank (view_of events rank) call.now → KnowsStarted n events rank call.now started self.new) }
+        ensures disagrees { (other : ℕ) → board_answer self.old.table.stages rank call.now ≡ DisagreesWith other → IsOk result }
+        ensures knows { IfOk result (λ started. (n : ℕ) (events : List Event) → KnowsHistory n events self.old → at ≡ length events → IsInForm n rank (view_of events rank) call.now → KnowsStarted n events rank call.now started self.new) }
     {
         match entered(&mut self.board, rank, call)? {
             Entered::Disagrees { other } => Ok(Started::Disagrees { other }),
@@ -212,7 +212,7 @@ impl Requests {
     /// Whether a start can be taken. Takes no memory.
     pub fn ready(&self, rank: u8, start: u32) -> Readiness
         ensures value { result ≡ readiness_of self.now.table rank (found_in self.now.table.rows (rank, start)) }
-        ensures knows { (n : ℕ) (events : List Event) → Knows n events self.now → IsReadiness n events rank start result }
+        ensures knows { (n : ℕ) (events : List Event) → KnowsHistory n events self.now → IsReadiness n events rank start result }
     {
         readiness(&self.rows, &self.board, &self.comms, rank, start)
     }
@@ -232,8 +232,8 @@ impl Requests {
 
         // Only what hands out items takes memory.
         ensures sure { hands_out (answer_in self.old.table rank starts.now mode) ≡ false → IsOk result }
-        ensures knows { IfOk result (λ answer. (n : ℕ) (events : List Event) → Knows n events self.old → Answers n events rank starts.now mode answer) }
-        ensures knows_on { IfOk result (λ answer. (n : ℕ) (events : List Event) → Knows n events self.old → KnowsTaken n events rank starts.now mode answer self.new) }
+        ensures knows { IfOk result (λ answer. (n : ℕ) (events : List Event) → KnowsHistory n events self.old → Answers n events rank starts.now mode answer) }
+        ensures knows_on { IfOk result (λ answer. (n : ℕ) (events : List Event) → KnowsHistory n events self.old → KnowsTaken (moment_at n events rank) starts.now mode answer self.new) }
     {
         let listed = starts.as_slice();
         let answer = answer(
@@ -264,8 +264,8 @@ impl Requests {
         ensures answer { IfOk result (λ answer. answer ≡ answer_at self.old.table rank starts.now index) }
         ensures after { IfOk result (λ answer. self.new ≡ with_rows (rows_at self.old.table.rows rank starts.now answer) self.old) }
         ensures err { OnErr result (self.new ≡ self.old) }
-        ensures knows { IfOk result (λ answer. (n : ℕ) (events : List Event) → Knows n events self.old → AnswersAt n events rank starts.now index answer) }
-        ensures knows_on { IfOk result (λ answer. (n : ℕ) (events : List Event) → Knows n events self.old → KnowsTakenAt n events rank starts.now answer self.new) }
+        ensures knows { IfOk result (λ answer. (n : ℕ) (events : List Event) → KnowsHistory n events self.old → AnswersAt n events rank starts.now index answer) }
+        ensures knows_on { IfOk result (λ answer. (n : ℕ) (events : List Event) → KnowsHistory n events self.old → KnowsTakenAt n events rank starts.now answer self.new) }
     {
         let listed = starts.as_slice();
         let Some(answer) = answer_at(
@@ -292,7 +292,7 @@ impl Requests {
     pub fn untake(&mut self, rank: u8, starts: &Starts, items: &Items)
         requires rank { rank < length self.old.table.rows }
         ensures after { self.new ≡ with_rows (with_row rank (all_marked false (items_taken starts.now items.now) (row_of self.old.table.rows rank)) self.old.table.rows) self.old }
-        ensures back { (before : State) → AreHandedOut before.table rank starts.now items.now → self.old ≡ with_rows (rows_after before.table.rows rank starts.now (Took items.now)) before → self.new ≡ before }
+        ensures back { (before : MatchingState) → AreHandedOut before.table rank starts.now items.now → self.old ≡ with_rows (rows_after before.table.rows rank starts.now (Took items.now)) before → self.new ≡ before }
     {
         let listed = starts.as_slice();
         mark_in(&mut self.rows, rank, listed, items.as_slice(), false);
@@ -302,15 +302,15 @@ impl Requests {
     pub fn peek(&self, rank: u8, call: &Call) -> Option<u32>
         requires kind { IsTrue (is_peek call.now) }
         ensures earliest { IsEarliest rank call.now self.now.unpaired result }
-        ensures knows { (n : ℕ) (events : List Event) → Knows n events self.now → result ≡ choice events rank call.now }
+        ensures knows { (n : ℕ) (events : List Event) → KnowsHistory n events self.now → result ≡ choice events rank call.now }
     {
         self.matcher.peek(rank, call)
     }
 
     /// The number, among its rank's starts, of the start at a position. Takes no memory.
     pub fn name_at(&self, at: u32) -> u32
-        ensures value { (name : Name) → name_in self.now.names at ≡ Some name → result ≡ name.1 }
-        ensures knows { (n : ℕ) (events : List Event) (name : Name) → Knows n events self.now → name_at events at ≡ Some name → result ≡ name.1 }
+        ensures value { (name : Name) → name_at_position self.now.names at ≡ Some name → result ≡ name.1 }
+        ensures knows { (n : ℕ) (events : List Event) (name : Name) → KnowsHistory n events self.now → name_at events at ≡ Some name → result ≡ name.1 }
     {
         match name_in(&self.names, at) {
             Some(name) => name.1,
@@ -321,11 +321,11 @@ impl Requests {
     /// What is known of a history stays known after every event that starts and completes nothing, and a new start may stand at
     /// the history's end.
     pub fn knows_on(&self)
-        ensures idle { (n : ℕ) (events : List Event) (event : Event) → Knows n events self.now → IsIdle event → Knows n (events ++ event ∷ []) self.now }
-        ensures above { (n : ℕ) (events : List Event) → Knows n events self.now → IsAbove (length events) self.now }
+        ensures idle { (n : ℕ) (events : List Event) (event : Event) → KnowsHistory n events self.now → IsIdleEvent event → KnowsHistory n (events ++ event ∷ []) self.now }
+        ensures above { (n : ℕ) (events : List Event) → KnowsHistory n events self.now → IsAbovePositions (length events) self.now }
 
         // A rank may make an Enter that is in form by the history.
-        ensures enters { (n rank : ℕ) (events : List Event) (call : Call) (members : List ℕ) → Knows n events self.now → known_in n (view_of events rank) (comm_of call) ≡ Some members → is_member members rank ≡ true → IsEnterOf call members rank → MayEnter self.now.table.comms rank call }
+        ensures enters { (n rank : ℕ) (events : List Event) (call : Call) (members : List ℕ) → KnowsHistory n events self.now → known_in n (view_of events rank) (comm_of call) ≡ Some members → is_member members rank ≡ true → IsEnterOf call members rank → MayEnter self.now.table.comms rank call }
     {}
 }
 

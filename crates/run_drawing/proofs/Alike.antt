@@ -1,9 +1,9 @@
 -- Lists and options whose elements are alike, one by one.
 use Rattle.std.proofs.Common.{◌≡◌, ◌++◌, ◌∷◌, [], ℕ, zero, suc, Bool, List, Option, Some, None, true, false, find, flat_map, inl, inr, refl, ap, sym, ◌∙◌, arith, length, slice_get, subst}
+use Rattle.std.specs.Option.{option_to_list}
 use Rattle.mpi_call.specs.Lists.{IsIn}
 use Rattle.run_model.proofs.Views.{test_cases}
-use Rattle.causes.specs.Positions.{listed}
-use Rattle.msg_races.specs.Listing.{joined}
+use Rattle.msg_races.specs.Listing.{lists_below}
 
 -- elements at one place are alike
 abbrev pub AreAlike : {A B : Type 0} → (A → B → Type 0) → List A → List B → Type 0
@@ -25,7 +25,7 @@ alike_append Like [] xs' (y ∷ ys) ys' one other = absurd one
 alike_append Like (x ∷ xs) xs' [] ys' one other = absurd one
 alike_append Like (x ∷ xs) xs' (y ∷ ys) ys' one other = (one.0, alike_append Like xs xs' ys ys' one.1 other)
 
-pub alike_listed : (Like : ℕ → ℕ → Type 0) (o p : Option ℕ) → IsAlike Like o p → AreAlike Like (listed o) (listed p)
+pub alike_listed : (Like : ℕ → ℕ → Type 0) (o p : Option ℕ) → IsAlike Like o p → AreAlike Like (option_to_list o) (option_to_list p)
 alike_listed Like None None is = tt
 alike_listed Like None (Some y) is = absurd is
 alike_listed Like (Some x) None is = absurd is
@@ -66,9 +66,9 @@ same_flat Like f g same (x ∷ xs) (y ∷ ys) are =
     let first : f x ≡ g y = same x y are.0 in
     ap (λ l. l ++ flat_map f xs) first ∙ ap (λ l. g y ++ l) (same_flat Like f g same xs ys are.1)
 
-pub same_joined : {A : Type 0} (f g : ℕ → List A) (n : ℕ) → ((rank : ℕ) → f rank ≡ g rank) → joined f n ≡ joined g n
+pub same_joined : {A : Type 0} (f g : ℕ → List A) (n : ℕ) → ((rank : ℕ) → f rank ≡ g rank) → lists_below f n ≡ lists_below g n
 same_joined f g zero same = refl
-same_joined f g (suc n) same = ap (λ l. l ++ f n) (same_joined f g n same) ∙ ap (λ l. joined g n ++ l) (same n)
+same_joined f g (suc n) same = ap (λ l. l ++ f n) (same_joined f g n same) ∙ ap (λ l. lists_below g n ++ l) (same n)
 
 -- the first that passes
 pub alike_find : {A B : Type 0} (Like : A → B → Type 0) (f : A → Bool) (g : B → Bool) → (xs : List A) (ys : List B)

@@ -1,5 +1,6 @@
 -- Arrows go right: they are steps from starts.
 use Rattle.std.proofs.Common.{◌≡◌, ◌≤◌, ◌<◌, ◌==◌, ◌&&◌, ◌∷◌, [], ℕ, zero, suc, Bool, List, Option, Some, None, true, false, find, flat_map, inl, inr, refl, ap, sym, ◌∙◌, arith, get_or, length, length-take-le, slice_get, subst, take}
+use Rattle.std.specs.Option.{option_to_list}
 use Rattle.std.proofs.lemmas.Bool.{and_parts, eqb-true}
 use Rattle.mpi_call.specs.declared.call.Call.{Call}
 use Rattle.mpi_call.specs.declared.call.Call.TheVariants.{Abort, End, Enter, Peek, Post, Send, Take, Trap}
@@ -15,39 +16,41 @@ use Rattle.mpi_call.specs.Calls.{is_starting, listed_by}
 use Rattle.mpi_call.specs.Lists.{IsIn}
 use Rattle.mpi_call.specs.Needs.{needs}
 use Rattle.run_model.specs.declared.event.Event.{Event}
-use Rattle.run_model.specs.Communicators.{is_on, members_in}
+use Rattle.run_model.specs.Communicators.{is_on, members_for_rank}
+use Rattle.run_model.specs.Due.{stops}
 use Rattle.run_model.specs.Views.{is_done, is_start, view_of}
 use Rattle.run_model.proofs.StartLemmas.{slice_get-below}
 use Rattle.run_model.proofs.Views.{test_cases}
-use Rattle.causes.specs.Before.{IsStep}
+use Rattle.causes.specs.Before.{PrecedesDirectly}
 use Rattle.causes.specs.Before.IsBefore.{step}
-use Rattle.causes.specs.Positions.{enter_position, instance_at, is_enter_of, is_of, is_start_of, listed, positions, start_position}
-use Rattle.causes.specs.Steps.{collected_from, completed_from, entered_by, entered_one, given_at, given_by, given_from, received_at, rests_on, taken_from}
+use Rattle.causes.specs.Positions.{enter_position, enter_instance_at, is_enter_of, is_event_of, is_start_of, positions, start_position}
+use Rattle.causes.specs.Steps.{collected_from, completed_from, needed_enters, entered_one, given_at, given_by, given_from, received_at, rests_on, given_by_items}
 use Rattle.causes.proofs.PositionLemmas.{placed-in}
-use Rattle.msg_races.specs.Listing.{joined}
+use Rattle.msg_races.specs.Listing.{lists_below}
 use Rattle.msg_races.proofs.SortedLists.{in_back, in_front, in_parts}
 use Rattle.group_plan.specs.Plans.{number_of_ranks}
 use Rattle.run_drawing.specs.declared.drawing.Arrow.{Arrow}
-use Rattle.run_drawing.specs.declared.drawing.Collective.{Collective}
-use Rattle.run_drawing.specs.declared.drawing.Message.{Message}
+use Rattle.run_drawing.specs.declared.drawing.DrawnCollective.{DrawnCollective}
+use Rattle.run_drawing.specs.declared.drawing.DrawnMessage.{DrawnMessage}
 use Rattle.run_drawing.specs.declared.drawing.Point.{Point}
-use Rattle.run_drawing.specs.declared.drawing.Receive.{Receive}
-use Rattle.run_drawing.specs.declared.links.Link.{Link}
+use Rattle.run_drawing.specs.declared.drawing.DrawnReceive.{DrawnReceive}
+use Rattle.run_drawing.specs.declared.links.CompletedStart.{CompletedStart}
 use Rattle.run_drawing.specs.Basis.{Basis}
-use Rattle.run_drawing.specs.Columns.{column, point, stops}
+use Rattle.run_drawing.specs.Columns.{column, point}
 use Rattle.run_drawing.specs.Depths.{AreDepths}
-use Rattle.run_drawing.specs.Drawings.{arrow_from, collective_at, collective_by, collective_in, collective_of, end_of, latest_of, message_by, message_from, of_events, of_starts, probe_at, probe_by, probe_in, receive_at, receive_by, receive_in, receive_of}
+use Rattle.run_drawing.specs.Drawings.{arrow_from, collective_at, collective_by, collective_in, collective_of, bar_end, latest_of, completed_message, drawn_message, of_events, of_starts, probe_at, probe_by, probe_in, receive_at, receive_by, receive_in, drawn_receive}
 use Rattle.run_drawing.specs.Drawn.{Drawn}
 use Rattle.run_drawing.specs.Laws.{ArrowsGoRight}
-use Rattle.run_drawing.specs.Links.{cause_at, cause_in, completion_in, deepest, link_by, links, links_at, links_by, links_from, links_in}
+use Rattle.run_drawing.specs.Links.{cause_at, cause_in, completion_in, deepest, link_by, links, links_at, links_by, event_links, links_in}
 use Rattle.run_drawing.proofs.ColumnLemmas.{columns_rise}
 use Rattle.run_drawing.proofs.Deepest.{deepest_among}
 use Rattle.run_drawing.proofs.DepthLemmas.{get_taken}
+use Rattle.run_drawing.specs.Choices.{posted_at}
 
 -- elements of joined lists
-pub in_joined : {A : Type 0} (f : ℕ → List A) (n : ℕ) (a : A) → IsIn a (joined f n) → (k : ℕ) × IsIn a (f k) × (k < n)
+pub in_joined : {A : Type 0} (f : ℕ → List A) (n : ℕ) (a : A) → IsIn a (lists_below f n) → (k : ℕ) × IsIn a (f k) × (k < n)
 in_joined f zero a h = absurd h
-in_joined f (suc n) a h = elim (in_parts a (joined f n) (f n) h) [
+in_joined f (suc n) a h = elim (in_parts a (lists_below f n) (f n) h) [
   | inl l ↦ (let rest = in_joined f n a l in let low = rest.2 in (rest.0, rest.1, omega (arith, low)))
   | inr r ↦ (n, r, omega arith)
 ]
@@ -59,7 +62,7 @@ in_mapped f (x ∷ xs) a h = elim (in_parts a (f x) (flat_map f xs) h) [
   | inr r ↦ in_mapped f xs a r
 ]
 
-found_in : (test : Link → Bool) (xs : List Link) (link : Link) → find test xs ≡ Some link → IsIn link xs × (test link ≡ true)
+found_in : (test : CompletedStart → Bool) (xs : List CompletedStart) (link : CompletedStart) → find test xs ≡ Some link → IsIn link xs × (test link ≡ true)
 found_in test [] link h = absurd (cc)
 found_in test (x ∷ xs) link h = elim (test_cases (test x)) [
   | inl t ↦ (
@@ -75,7 +78,7 @@ record IsStarted (before : List Event) (s : ℕ) : Type 0 where
   there : slice_get before s ≡ Some event
   start : is_start (event.call, event.reply) ≡ true
 
-pub listed_is : (o : Option ℕ) (s : ℕ) → IsIn s (listed o) → o ≡ Some s
+pub listed_is : (o : Option ℕ) (s : ℕ) → IsIn s (option_to_list o) → o ≡ Some s
 listed_is None s h = absurd h
 listed_is (Some p) s h = elim h [ inl e ↦ ap Some e | inr never ↦ absurd never ]
 
@@ -100,17 +103,17 @@ entered_one_there before comm instance needed m s h = elim (test_cases (needed m
   | inr t ↦ (let none : IsIn s [] = rw t at h in absurd none)
 ]
 
-entered_there : (before : List Event) (comm instance : ℕ) (needed : ℕ → Bool) (members : List ℕ) (s : ℕ) → IsIn s (entered_by before comm instance needed members) → IsStarted before s
+entered_there : (before : List Event) (comm instance : ℕ) (needed : ℕ → Bool) (members : List ℕ) (s : ℕ) → IsIn s (needed_enters before comm instance needed members) → IsStarted before s
 entered_there before comm instance needed [] s h = absurd h
 entered_there before comm instance needed (m ∷ members) s h =
-    elim (in_parts s (entered_one before comm instance needed m) (entered_by before comm instance needed members) h) [
+    elim (in_parts s (entered_one before comm instance needed m) (needed_enters before comm instance needed members) h) [
       | inl l ↦ entered_one_there before comm instance needed m s l
       | inr r ↦ entered_there before comm instance needed members s r
     ]
 
 collected_there : (n : ℕ) (before : List Event) (me at : ℕ) (call : Call) (s : ℕ) → IsIn s (collected_from n before me at call) → IsStarted before s
 collected_there n before me at (Enter comm kind root op count ints) s h =
-    entered_there before comm (instance_at before me comm at) (needs (Enter comm kind root op count ints) (members_in n (view_of before me) comm) me) (members_in n (view_of before me) comm) s h
+    entered_there before comm (enter_instance_at before me comm at) (needs (Enter comm kind root op count ints) (members_for_rank n (view_of before me) comm) me) (members_for_rank n (view_of before me) comm) s h
 collected_there n before me at (Send comm dest tag ints sync) s h = absurd h
 collected_there n before me at (Post comm source tag room) s h = absurd h
 collected_there n before me at (Take starts mode) s h = absurd h
@@ -159,28 +162,28 @@ done_goes (Peeked source start tag count) h = absurd (cc)
 done_goes (Stopped halt) h = absurd (cc)
 
 -- what makes a link
-record IsLinked (n : ℕ) (depths : List ℕ) (before : List Event) (me : ℕ) (starts : List ℕ) (items : List Item) (link : Link) : Type 0 where
+record IsLinked (n : ℕ) (depths : List ℕ) (before : List Event) (me : ℕ) (starts : List ℕ) (items : List Item) (link : CompletedStart) : Type 0 where
   number : ℕ
   got : Got
   start : start_position before me number ≡ Some link.start
   at : link.at ≡ length before
   cause : link.cause ≡ deepest depths (completed_from n before me number got)
-  among : (t : ℕ) → IsIn t (completed_from n before me number got) → IsIn t (taken_from n before me starts items)
+  among : (t : ℕ) → IsIn t (completed_from n before me number got) → IsIn t (given_by_items n before me starts items)
 
-linked_by : (o : Option ℕ) (at : ℕ) (cause : Option ℕ) (link : Link) → IsIn link (link_by o at cause) → (o ≡ Some link.start) × (link.at ≡ at) × (link.cause ≡ cause)
+linked_by : (o : Option ℕ) (at : ℕ) (cause : Option ℕ) (link : CompletedStart) → IsIn link (link_by o at cause) → (o ≡ Some link.start) × (link.at ≡ at) × (link.cause ≡ cause)
 linked_by None at cause link h = absurd h
 linked_by (Some start) at cause link h = elim h [
-  | inl e ↦ (ap (λ (l : Link). Some l.start) e, sym (ap (λ (l : Link). l.at) e), sym (ap (λ (l : Link). l.cause) e))
+  | inl e ↦ (ap (λ (l : CompletedStart). Some l.start) e, sym (ap (λ (l : CompletedStart). l.at) e), sym (ap (λ (l : CompletedStart). l.cause) e))
   | inr never ↦ absurd never
 ]
 
-linked_in : (n : ℕ) (depths : List ℕ) (before : List Event) (me : ℕ) (starts : List ℕ) (items : List Item) (link : Link) → IsIn link (links_in n depths before me starts items)
+linked_in : (n : ℕ) (depths : List ℕ) (before : List Event) (me : ℕ) (starts : List ℕ) (items : List Item) (link : CompletedStart) → IsIn link (links_in n depths before me starts items)
     → IsLinked n depths before me starts items link
 linked_in n depths before me starts [] link h = absurd h
 linked_in n depths before me starts (item ∷ items) link h =
     let number : ℕ = get_or starts item.index 0 in
     let rests : List ℕ = completed_from n before me number item.got in
-    let later : List ℕ = taken_from n before me starts items in
+    let later : List ℕ = given_by_items n before me starts items in
     elim (in_parts link (link_by (start_position before me number) (length before) (deepest depths rests)) (links_in n depths before me starts items) h) [
       | inl l ↦ (
           let is = linked_by (start_position before me number) (length before) (deepest depths rests) link l in
@@ -197,7 +200,7 @@ linked_in n depths before me starts (item ∷ items) link h =
           })
     ]
 
-by_reply : (n : ℕ) (depths : List ℕ) (before : List Event) (me : ℕ) (call : Call) (reply : Reply) (link : Link) → IsIn link (links_by n depths before me call reply)
+by_reply : (n : ℕ) (depths : List ℕ) (before : List Event) (me : ℕ) (call : Call) (reply : Reply) (link : CompletedStart) → IsIn link (links_by n depths before me call reply)
     → (items : List Item) × IsLinked n depths before me (listed_by call) items link × (reply ≡ Took items)
 by_reply n depths before me call (Took items) link h = (items, linked_in n depths before me (listed_by call) items link h, refl)
 by_reply n depths before me call Done link h = absurd h
@@ -205,7 +208,7 @@ by_reply n depths before me call NotYet link h = absurd h
 by_reply n depths before me call (Peeked source start tag count) link h = absurd h
 by_reply n depths before me call (Stopped halt) link h = absurd h
 
-by_event : (n : ℕ) (depths : List ℕ) (before : List Event) (o : Option Event) (link : Link) → IsIn link (links_from n depths before o)
+by_event : (n : ℕ) (depths : List ℕ) (before : List Event) (o : Option Event) (link : CompletedStart) → IsIn link (event_links n depths before o)
     → (event : Event) × IsIn link (links_by n depths before event.rank event.call event.reply) × (o ≡ Some event)
 by_event n depths before None link h = absurd h
 by_event n depths before (Some event) link h = (event, h, refl)
@@ -215,7 +218,7 @@ record IsRight (basis : Basis) (s u : ℕ) : Type 0 where
   event : Event
   there : slice_get basis.events s ≡ Some event
   goes : stops event.reply ≡ false
-  step : IsStep basis.ranks basis.events s u
+  step : PrecedesDirectly basis.ranks basis.events s u
 
 right_of : (basis : Basis) (s u : ℕ) → AreDepths basis.ranks basis.events basis.depths → IsRight basis s u → column basis s < column basis u
 right_of basis s u are right = columns_rise basis s u right.event are right.there right.goes (step s u right.step)
@@ -230,7 +233,7 @@ long_taken : {A : Type 0} (k : ℕ) (xs : List A) → k ≤ length xs → length
 long_taken k xs low = length-take-le k xs low
 
 -- a link of a receive or a collective: from its cause to its completion
-link_right : (basis : Basis) (link : Link) (start : Event) (s : ℕ) → AreDepths basis.ranks basis.events basis.depths → IsIn link (links basis)
+link_right : (basis : Basis) (link : CompletedStart) (start : Event) (s : ℕ) → AreDepths basis.ranks basis.events basis.depths → IsIn link (links basis)
     → slice_get basis.events link.start ≡ Some start → IsReceiving start.call → link.cause ≡ Some s → IsRight basis s link.at
 link_right basis link start s are among there receiving cause =
     let n : ℕ = basis.ranks in
@@ -258,7 +261,7 @@ link_right basis link start s are among there receiving cause =
     let rests : IsIn s (rests_on n (take k events) event.rank event.call event.reply) =
     (let P : Reply → Type 0 = λ r. IsIn s (rests_on n (take k events) event.rank event.call r) in subst P (sym at_reply.2) (linked.among s one.0)) in
     let at_k : link.at ≡ k = linked.at ∙ long in
-    let S : ℕ → Type 0 = λ u. IsStep n events s u in
+    let S : ℕ → Type 0 = λ u. PrecedesDirectly n events s u in
     record {
       event = started.event;
       there = goes.0;
@@ -271,17 +274,17 @@ link_right basis link start s are among there receiving cause =
     }
 
 -- the message of a receive
-message_right : (basis : Basis) (rank comm : ℕ) (source : Source) (tag : Tag) (p : ℕ) (start : Event) (completion : Option Link) (message : Message)
+message_right : (basis : Basis) (rank comm : ℕ) (source : Source) (tag : Tag) (p : ℕ) (start : Event) (completion : Option CompletedStart) (message : DrawnMessage)
     → AreDepths basis.ranks basis.events basis.depths → slice_get basis.events p ≡ Some start → IsReceiving start.call
-    → completion_in (links basis) p ≡ completion → message_by basis rank comm source tag p completion ≡ Some message → message.sender.column < end_of basis rank completion
+    → completion_in (links basis) p ≡ completion → completed_message basis (posted_at p rank comm source tag) completion ≡ Some message → message.sender.column < bar_end basis rank completion
 message_right basis rank comm source tag p start None message are there receiving is h = absurd (cc)
 message_right basis rank comm source tag p start (Some link) message are there receiving is h =
     by_cause link.cause refl h
   where
-    by_cause : (cause : Option ℕ) → link.cause ≡ cause → message_from basis rank comm source tag p link.at cause ≡ Some message → message.sender.column < column basis link.at
+    by_cause : (cause : Option ℕ) → link.cause ≡ cause → drawn_message basis (posted_at p rank comm source tag) link.at cause ≡ Some message → message.sender.column < column basis link.at
     by_cause None e m = absurd (cc)
     by_cause (Some s) e m =
-        let found = found_in (λ (l : Link). l.start == p) (links basis) link is in
+        let found = found_in (λ (l : CompletedStart). l.start == p) (links basis) link is in
         let at : link.start ≡ p = eqb-true link.start p found.1 in
         let here : slice_get basis.events link.start ≡ Some start = ap (slice_get basis.events) at ∙ there in
         let right = right_of basis s link.at are (link_right basis link start s are found.0 here receiving e) in
@@ -290,26 +293,26 @@ message_right basis rank comm source tag p start (Some link) message are there r
         let value : message.sender.column ≡ column basis s = ap (λ (q : Point). q.column) (sym same) in
         omega (arith, right, value)
       where
-        some_sender : Option Message → Option Point
+        some_sender : Option DrawnMessage → Option Point
         some_sender None = None
         some_sender (Some m) = Some m.sender
 
 -- a receive that is posted
-posted_right : (basis : Basis) (p rank comm : ℕ) (source : Source) (tag : Tag) (room : ℕ) (start : Event) (receive : Receive) (message : Message) → AreDepths basis.ranks basis.events basis.depths
+posted_right : (basis : Basis) (p rank comm : ℕ) (source : Source) (tag : Tag) (room : ℕ) (start : Event) (receive : DrawnReceive) (message : DrawnMessage) → AreDepths basis.ranks basis.events basis.depths
     → slice_get basis.events p ≡ Some start → start.call ≡ Post comm source tag room
-    → IsIn receive (receive_of basis p rank comm source tag (completion_in (links basis) p) ∷ []) → receive.message ≡ Some message → message.sender.column < receive.to
+    → IsIn receive (drawn_receive basis (posted_at p rank comm source tag) (completion_in (links basis) p) ∷ []) → receive.message ≡ Some message → message.sender.column < receive.to
 posted_right basis p rank comm source tag room start receive message are there call h m = elim h [
   | inl e ↦ (
       let R : Call → Type 0 = λ c. IsReceiving c in
-      let is : message_by basis rank comm source tag p (completion_in (links basis) p) ≡ Some message = ap (λ (r : Receive). r.message) e ∙ m in
+      let is : completed_message basis (posted_at p rank comm source tag) (completion_in (links basis) p) ≡ Some message = ap (λ (r : DrawnReceive). r.message) e ∙ m in
       let right = message_right basis rank comm source tag p start (completion_in (links basis) p) message are there (subst R (sym call) tt) refl is in
-      let end : end_of basis rank (completion_in (links basis) p) ≡ receive.to = ap (λ (r : Receive). r.to) e in
+      let end : bar_end basis rank (completion_in (links basis) p) ≡ receive.to = ap (λ (r : DrawnReceive). r.to) e in
       omega (arith, right, end))
   | inr never ↦ absurd never
 ]
 
 -- a receive of an event
-receive_right : (basis : Basis) (p rank : ℕ) (start : Event) (call : Call) (receive : Receive) (message : Message) → AreDepths basis.ranks basis.events basis.depths
+receive_right : (basis : Basis) (p rank : ℕ) (start : Event) (call : Call) (receive : DrawnReceive) (message : DrawnMessage) → AreDepths basis.ranks basis.events basis.depths
     → slice_get basis.events p ≡ Some start → start.call ≡ call → IsIn receive (receive_by basis p rank call) → receive.message ≡ Some message
     → message.sender.column < receive.to
 receive_right basis p rank start (Post comm Null tag room) receive message are there call h m = absurd h
@@ -325,7 +328,7 @@ receive_right basis p rank start (Abort code) receive message are there call h m
 receive_right basis p rank start (Trap fault) receive message are there call h m = absurd h
 receive_right basis p rank start End receive message are there call h m = absurd h
 
-receives_right : (basis : Basis) (p : ℕ) (o : Option Event) (receive : Receive) (message : Message) → AreDepths basis.ranks basis.events basis.depths
+receives_right : (basis : Basis) (p : ℕ) (o : Option Event) (receive : DrawnReceive) (message : DrawnMessage) → AreDepths basis.ranks basis.events basis.depths
     → slice_get basis.events p ≡ o → IsIn receive (receive_in basis p o) → receive.message ≡ Some message → message.sender.column < receive.to
 receives_right basis p None receive message are there h m = absurd h
 receives_right basis p (Some event) receive message are there h m = receive_right basis p event.rank event event.call receive message are there refl h m
@@ -341,24 +344,24 @@ latest_right basis p (Some q) latest h = elim (test_cases (q == p)) [
       (q, refl, same))
 ]
 
-entered_right : (basis : Basis) (p rank : ℕ) (start : Event) (completion : Option Link) (collective : Collective) (latest : Point) → AreDepths basis.ranks basis.events basis.depths
+entered_right : (basis : Basis) (p rank : ℕ) (start : Event) (completion : Option CompletedStart) (collective : DrawnCollective) (latest : Point) → AreDepths basis.ranks basis.events basis.depths
     → slice_get basis.events p ≡ Some start → IsReceiving start.call → completion_in (links basis) p ≡ completion
     → IsIn collective (collective_of basis p rank completion) → collective.latest ≡ Some latest → latest.column < collective.to
 entered_right basis p rank start None collective latest are there receiving is h l = absurd h
 entered_right basis p rank start (Some link) collective latest are there receiving is h l = elim h [
   | inl e ↦ (
-      let found = found_in (λ (x : Link). x.start == p) (links basis) link is in
+      let found = found_in (λ (x : CompletedStart). x.start == p) (links basis) link is in
       let at : link.start ≡ p = eqb-true link.start p found.1 in
       let here : slice_get basis.events link.start ≡ Some start = ap (slice_get basis.events) at ∙ there in
-      let one = latest_right basis p link.cause latest (ap (λ (c : Collective). c.latest) e ∙ l) in
+      let one = latest_right basis p link.cause latest (ap (λ (c : DrawnCollective). c.latest) e ∙ l) in
       let right = right_of basis one.0 link.at are (link_right basis link start one.0 are found.0 here receiving one.1) in
       let left : column basis one.0 ≡ latest.column = ap (λ (q : Point). q.column) one.2 in
-      let end : column basis link.at ≡ collective.to = ap (λ (c : Collective). c.to) e in
+      let end : column basis link.at ≡ collective.to = ap (λ (c : DrawnCollective). c.to) e in
       omega (arith, right, left, end))
   | inr never ↦ absurd never
 ]
 
-collective_right : (basis : Basis) (p rank : ℕ) (start : Event) (call : Call) (collective : Collective) (latest : Point) → AreDepths basis.ranks basis.events basis.depths
+collective_right : (basis : Basis) (p rank : ℕ) (start : Event) (call : Call) (collective : DrawnCollective) (latest : Point) → AreDepths basis.ranks basis.events basis.depths
     → slice_get basis.events p ≡ Some start → start.call ≡ call → IsIn collective (collective_by basis p rank call) → collective.latest ≡ Some latest
     → latest.column < collective.to
 collective_right basis p rank start (Enter comm kind root op count ints) collective latest are there call h l =
@@ -372,7 +375,7 @@ collective_right basis p rank start (Abort code) collective latest are there cal
 collective_right basis p rank start (Trap fault) collective latest are there call h l = absurd h
 collective_right basis p rank start End collective latest are there call h l = absurd h
 
-collectives_right : (basis : Basis) (p : ℕ) (o : Option Event) (collective : Collective) (latest : Point) → AreDepths basis.ranks basis.events basis.depths
+collectives_right : (basis : Basis) (p : ℕ) (o : Option Event) (collective : DrawnCollective) (latest : Point) → AreDepths basis.ranks basis.events basis.depths
     → slice_get basis.events p ≡ o → IsIn collective (collective_in basis p o) → collective.latest ≡ Some latest → latest.column < collective.to
 collectives_right basis p None collective latest are there h l = absurd h
 collectives_right basis p (Some event) collective latest are there h l = collective_right basis p event.rank event event.call collective latest are there refl h l
@@ -390,7 +393,7 @@ found_right basis p event source number tag count (Some s) probe are there reply
       let before : List Event = take p events in
       let C : Reply → Type 0 = λ r. deepest (take p depths) (rests_on n before event.rank event.call r) ≡ Some s in
       let O : Option Event → Type 0 = λ o. cause_in n (take p depths) before o ≡ Some s in
-      let rests : List ℕ = listed (start_position before source number) in
+      let rests : List ℕ = option_to_list (start_position before source number) in
       let value : deepest (take p depths) rests ≡ Some s = subst C reply (subst O there is) in
       let one = deepest_among (take p depths) rests s value in
       let within = one.1 in
@@ -435,13 +438,13 @@ arrows_go_right plan events drawing is =
     let n : ℕ = number_of_ranks plan in
     record {
       messages = λ receive message among m.
-          let R : List Receive → Type 0 = λ l. IsIn receive l in
+          let R : List DrawnReceive → Type 0 = λ l. IsIn receive l in
           let there = subst R (ap (λ (d : Drawn). d.receives) is.is) among in
           let of_rank = in_joined (of_starts (receive_at basis) events) n receive there in
           let of_start = in_mapped (receive_at basis) (positions (is_start_of of_rank.0) 0 events) receive of_rank.1 in
           receives_right basis of_start.0 (slice_get events of_start.0) receive message is.are_depths refl of_start.1 m;
       collectives = λ collective latest among l.
-          let C : List Collective → Type 0 = λ l. IsIn collective l in
+          let C : List DrawnCollective → Type 0 = λ l. IsIn collective l in
           let there = subst C (ap (λ (d : Drawn). d.collectives) is.is) among in
           let of_rank = in_joined (of_starts (collective_at basis) events) n collective there in
           let of_start = in_mapped (collective_at basis) (positions (is_start_of of_rank.0) 0 events) collective of_rank.1 in
@@ -450,6 +453,6 @@ arrows_go_right plan events drawing is =
           let A : List Arrow → Type 0 = λ l. IsIn probe l in
           let there = subst A (ap (λ (d : Drawn). d.probes) is.is) among in
           let of_rank = in_joined (of_events (probe_at basis) events) n probe there in
-          let of_event = in_mapped (probe_at basis) (positions (is_of of_rank.0) 0 events) probe of_rank.1 in
+          let of_event = in_mapped (probe_at basis) (positions (is_event_of of_rank.0) 0 events) probe of_rank.1 in
           probes_right basis of_event.0 (slice_get events of_event.0) probe is.are_depths refl of_event.1;
     }

@@ -1,20 +1,21 @@
 -- Columns rise along causes.
 use Rattle.std.proofs.Common.{◌≡◌, ◌<◌, ℕ, zero, suc, List, Some, true, false, inl, inr, refl, ap, sym, ◌∙◌, arith, get_or, length, slice_get}
 use Rattle.run_model.specs.declared.event.Event.{Event}
+use Rattle.run_model.specs.Due.{stops}
 use Rattle.run_model.proofs.Views.{test_cases}
-use Rattle.causes.specs.Before.{IsBefore, IsStep}
+use Rattle.causes.specs.Before.{IsBefore, PrecedesDirectly}
 use Rattle.causes.specs.Before.IsBefore.{step, path}
 use Rattle.causes.proofs.Deciding.{below_some}
 use Rattle.causes.proofs.Paths.{before-less, before-within, step-less, step-within}
 use Rattle.run_drawing.specs.Basis.{Basis}
-use Rattle.run_drawing.specs.Columns.{behind_all, behind_first, column, column_behind, column_by, stops}
+use Rattle.run_drawing.specs.Columns.{behind_all, behind_first, column, column_behind, column_by}
 use Rattle.run_drawing.specs.Depths.{AreDepths}
 use Rattle.run_drawing.specs.Depths.IsChain.{longer}
 use Rattle.run_drawing.specs.Laws.{ColumnsRise}
 use Rattle.run_drawing.proofs.DepthLemmas.{equal_or_less}
 
 -- a step goes deeper
-step_deeper : (n : ℕ) (events : List Event) (depths : List ℕ) (t u : ℕ) → AreDepths n events depths → IsStep n events t u → get_or depths t 0 < get_or depths u 0
+step_deeper : (n : ℕ) (events : List Event) (depths : List ℕ) (t u : ℕ) → AreDepths n events depths → PrecedesDirectly n events t u → get_or depths t 0 < get_or depths u 0
 step_deeper n events depths t u are is =
     let less = step-less n events t u is in
     let within = step-within n events t u is in

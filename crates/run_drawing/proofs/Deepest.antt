@@ -1,9 +1,9 @@
 -- The deepest of positions.
 use Rattle.std.proofs.Common.{◌≡◌, ◌≤◌, ◌<◌, ◌⊎◌, ◌-◌, ◌++◌, ◌∷◌, [], ℕ, List, Option, Some, None, true, false, inl, inr, refl, ap, sym, ◌∙◌, arith, drop, get_or, length, nat_lt, subst, take, take_all}
+use Rattle.std.specs.Option.{option_to_list}
 use Rattle.std.proofs.lemmas.Bool.{le-ltb, lt-ltb, ltb-true, ltb-false}
 use Rattle.mpi_call.specs.Lists.{IsIn}
 use Rattle.run_model.proofs.Views.{test_cases}
-use Rattle.causes.specs.Positions.{listed}
 use Rattle.run_drawing.specs.Links.{deeper, deepest, with_depth}
 
 -- of three positions
@@ -118,7 +118,7 @@ deepest_low depths (x ∷ places) q among low = elim among [
 
 -- one more position in front
 pub deepest_front : (depths : List ℕ) (first : Option ℕ) (places : List ℕ) → ((p : ℕ) → first ≡ Some p → p < length depths)
-    → deeper depths first (deepest depths places) ≡ deepest depths (listed first ++ places)
+    → deeper depths first (deepest depths places) ≡ deepest depths (option_to_list first ++ places)
 deepest_front depths None places known = refl
 deepest_front depths (Some p) places known = ap (λ o. deeper depths o (deepest depths places)) (sym (there_known depths p (known p refl)))
 

@@ -1,17 +1,18 @@
 -- The depth of one more event.
 use Rattle.std.proofs.Common.{◌≡◌, ◌≤◌, ◌<◌, ◌⊎◌, ◌-◌, ◌++◌, ◌∷◌, [], ℕ, zero, suc, List, Option, Some, None, inl, inr, refl, ap, sym, ◌∙◌, arith, get_or, length, length-take-le, slice_get, subst, take}
+use Rattle.std.specs.Option.{option_to_list}
 use Rattle.mpi_call.specs.Lists.{IsIn}
 use Rattle.run_model.specs.declared.event.Event.{Event}
 use Rattle.run_model.proofs.StartLemmas.{slice_get-below}
-use Rattle.causes.specs.Before.{IsDirectlyBefore, IsOwn, IsStep}
-use Rattle.causes.specs.Positions.{is_of, listed, positions}
+use Rattle.causes.specs.Before.{IsDirectlyBefore, IsEventOfRank, PrecedesDirectly}
+use Rattle.causes.specs.Positions.{is_event_of, positions}
 use Rattle.causes.specs.Steps.{rests_on}
 use Rattle.causes.proofs.NewClocks.{in_first, in_second, listed_there, own_step, previous, source_direct}
 use Rattle.causes.proofs.Paths.{step-less}
 use Rattle.causes.proofs.PositionLemmas.{placed-in}
 use Rattle.run_drawing.specs.Depths.{IsChain, IsDepth}
 use Rattle.run_drawing.specs.Depths.IsChain.{alone, longer}
-use Rattle.run_drawing.specs.Links.{deeper, deepest, depth_after, last_of}
+use Rattle.run_drawing.specs.Links.{deeper, deepest, depth_after, last_position}
 use Rattle.run_drawing.proofs.Deepest.{IsDeeper, deepest_among, deepest_front, deepest_low}
 
 -- a chain is no longer than the events before it
@@ -28,7 +29,7 @@ get_taken [] (suc k) t x h = absurd (cc)
 get_taken (y ∷ xs) (suc k) zero x h = h
 get_taken (y ∷ xs) (suc k) (suc t) x h = get_taken xs k t x h
 
-own_taken : (events : List Event) (k rank t : ℕ) → IsOwn (take k events) rank t → IsOwn events rank t
+own_taken : (events : List Event) (k rank t : ℕ) → IsEventOfRank (take k events) rank t → IsEventOfRank events rank t
 own_taken events k rank t own = record { earlier = own.earlier; at = get_taken events k t own.earlier own.at; own = own.own }
 
 pub equal_or_less : (a b : ℕ) → a ≤ b → (a ≡ b) ⊎ (a < b)
@@ -46,7 +47,7 @@ pub record IsNext (n : ℕ) (events : List Event) (k : ℕ) (event : Event) (dep
 -- the positions that it is directly after, but for its rank's earlier ones
 abbrev behind : ℕ → List Event → ℕ → Event → List ℕ
 behind n events k event =
-    listed (last_of (take k events) event.rank) ++ rests_on n (take k events) event.rank event.call event.reply
+    option_to_list (last_position (take k events) event.rank) ++ rests_on n (take k events) event.rank event.call event.reply
 
 long_taken : (n : ℕ) (events : List Event) (k : ℕ) (event : Event) (depths : List ℕ) → IsNext n events k event depths → length (take k events) ≡ k
 long_taken n events k event depths next =
@@ -59,7 +60,7 @@ deep_enough : (n : ℕ) (events : List Event) (k : ℕ) (event : Event) (depths 
 deep_enough n events k event depths t next direct =
     let before : List Event = take k events in
     let rank : ℕ = event.rank in
-    let last : Option ℕ = last_of before rank in
+    let last : Option ℕ = last_position before rank in
     let rests : List ℕ = rests_on n before rank event.call event.reply in
     let long = long_taken n events k event depths next in
     let many = next.as_many in
@@ -68,8 +69,8 @@ deep_enough n events k event depths t next direct =
       | inl own ↦ (
           let found = previous before rank t last refl own in
           let within = slice_get-below before found.at found.own.earlier found.own.at in
-          let there = in_first (listed last) rests found.at (listed_there last found.at found.is) in
-          let deep = deepest_low depths (listed last ++ rests) found.at there (omega (arith, within, long, many)) in
+          let there = in_first (option_to_list last) rests found.at (listed_there last found.at found.is) in
+          let deep = deepest_low depths (option_to_list last ++ rests) found.at there (omega (arith, within, long, many)) in
           let low : get_or depths t 0 ≤ get_or depths found.at 0 = elim (equal_or_less t found.at found.low) [
             | inl e ↦ (let same = ap (λ k. get_or depths k 0) e in omega (arith, same))
             | inr early ↦ (
@@ -80,13 +81,13 @@ deep_enough n events k event depths t next direct =
           ] in
           let more = deep.deep in
           record { at = deep.at; is = deep.is; deep = omega (arith, low, more) })
-      | inr rest ↦ deepest_low depths (listed last ++ rests) t (in_second (listed last) rests t rest) (omega (arith, less, long, many))
+      | inr rest ↦ deepest_low depths (option_to_list last ++ rests) t (in_second (option_to_list last) rests t rest) (omega (arith, less, long, many))
     ]
 
-step_there : (n : ℕ) (events : List Event) (k : ℕ) (event : Event) (t : ℕ) → slice_get events k ≡ Some event → IsDirectlyBefore n (take k events) event t → IsStep n events t k
+step_there : (n : ℕ) (events : List Event) (k : ℕ) (event : Event) (t : ℕ) → slice_get events k ≡ Some event → IsDirectlyBefore n (take k events) event t → PrecedesDirectly n events t k
 step_there n events k event t there direct = record { event = event; at = there; direct = direct }
 
-step_direct : (n : ℕ) (events : List Event) (k : ℕ) (event : Event) (t : ℕ) → slice_get events k ≡ Some event → IsStep n events t k → IsDirectlyBefore n (take k events) event t
+step_direct : (n : ℕ) (events : List Event) (k : ℕ) (event : Event) (t : ℕ) → slice_get events k ≡ Some event → PrecedesDirectly n events t k → IsDirectlyBefore n (take k events) event t
 step_direct n events k event t there step =
     let some : Some step.event ≡ Some event = sym step.at ∙ there in
     let same : step.event ≡ event = cc in
@@ -94,11 +95,11 @@ step_direct n events k event t there step =
     subst P same step.direct
 
 -- the last event of its rank has a depth
-last_known : (n : ℕ) (events : List Event) (k : ℕ) (event : Event) (depths : List ℕ) (p : ℕ) → IsNext n events k event depths → last_of (take k events) event.rank ≡ Some p → p < length depths
+last_known : (n : ℕ) (events : List Event) (k : ℕ) (event : Event) (depths : List ℕ) (p : ℕ) → IsNext n events k event depths → last_position (take k events) event.rank ≡ Some p → p < length depths
 last_known n events k event depths p next is =
     let before : List Event = take k events in
-    let among = get_in (positions (is_of event.rank) 0 before) (length (positions (is_of event.rank) 0 before) - 1) p is in
-    let placed = placed-in (is_of event.rank) before p among in
+    let among = get_in (positions (is_event_of event.rank) 0 before) (length (positions (is_event_of event.rank) 0 before) - 1) p is in
+    let placed = placed-in (is_event_of event.rank) before p among in
     let low = slice_get-below before p placed.event placed.there in
     let long = long_taken n events k event depths next in
     let many = next.as_many in
@@ -114,8 +115,8 @@ no_longer : (n : ℕ) (events : List Event) (k : ℕ) (event : Event) (depths : 
     → (steps u : ℕ) → IsChain n events steps u → u ≡ k → steps ≤ depth_after depths (deepest depths (behind n events k event))
 no_longer n events k event depths next _ _ (alone u) is = omega arith
 no_longer n events k event depths next _ _ (longer steps t u chain step) is =
-    let P : ℕ → Type 0 = λ v. IsStep n events t v in
-    let here : IsStep n events t k = subst P is step in
+    let P : ℕ → Type 0 = λ v. PrecedesDirectly n events t v in
+    let here : PrecedesDirectly n events t k = subst P is step in
     let direct = step_direct n events k event t next.there here in
     let deep = deep_enough n events k event depths t next direct in
     let less = step-less n events t k here in
@@ -133,14 +134,14 @@ one_as_long n events k event depths (Some p) next is =
     let low = among.1 in
     let many = next.as_many in
     let long = long_taken n events k event depths next in
-    let direct = source_direct n (take k events) event (last_of (take k events) event.rank) p refl (omega (arith, low, many, long)) among.0 in
+    let direct = source_direct n (take k events) event (last_position (take k events) event.rank) p refl (omega (arith, low, many, long)) among.0 in
     longer (get_or depths p 0) p k (next.each p (omega (arith, low, many))).chain (step_there n events k event p next.there direct)
 
 pub next_depth : (n : ℕ) (events : List Event) (k : ℕ) (event : Event) (depths : List ℕ) (cause : Option ℕ) → IsNext n events k event depths
     → cause ≡ deepest depths (rests_on n (take k events) event.rank event.call event.reply)
-    → IsDepth n events k (depth_after depths (deeper depths (last_of (take k events) event.rank) cause))
+    → IsDepth n events k (depth_after depths (deeper depths (last_position (take k events) event.rank) cause))
 next_depth n events k event depths cause next is =
-    let last : Option ℕ = last_of (take k events) event.rank in
+    let last : Option ℕ = last_position (take k events) event.rank in
     let all : deeper depths last cause ≡ deepest depths (behind n events k event) =
     ap (deeper depths last) is
     ∙ deepest_front depths last (rests_on n (take k events) event.rank event.call event.reply) (λ p e. last_known n events k event depths p next e) in

@@ -18,23 +18,23 @@ use Rattle.mpi_call.specs.Collectives.{is_uncoloured}
 use Rattle.mpi_call.specs.Lists.{IsIn}
 use Rattle.mpi_call.specs.Needs.{needs}
 use Rattle.run_model.specs.declared.event.Event.{Event}
-use Rattle.run_model.specs.Allowed.{AreChosen, IsAllowedBy, IsAnswer, IsHeld, IsOne, IsPeekAnswer, IsStuck, IsTakeAnswer, first_long, flags_of, has_open, holds, taken_reply, true_places}
-use Rattle.run_model.specs.Communicators.{Entered, enter_at, instance_of, members_in}
+use Rattle.run_model.specs.Allowed.{AreChosen, IsAllowedBy, IsAnswer, IsHeld, IsOne, IsPeekAnswer, IsStuck, IsTakeAnswer, first_long, flags_of, has_open, mode_holds, probe_of, taken_reply, true_places}
+use Rattle.run_model.specs.Communicators.{Entered, enter_at, instance_of, members_for_rank}
 use Rattle.run_model.specs.Due.{due}
 use Rattle.run_model.specs.Inputs.{gather, inputs_of, is_gathered}
 use Rattle.run_model.specs.Pairs.{Name, named, pairs_of, partner_of}
 use Rattle.run_model.specs.Readiness.{AreGots, IsFrom, IsGot, IsMessage, is_ready}
 use Rattle.run_model.specs.Run.{IsEvent}
 use Rattle.run_model.specs.Shape.{is_test}
-use Rattle.run_model.specs.Views.{Next, View, start_at, view_of}
+use Rattle.run_model.specs.Views.{Next, View, moment_at, moment_of, start_at, view_of}
 use Rattle.run_model.proofs.Gathering.{pushed, with_some}
 use Rattle.run_model.proofs.TrueReplies.{allowed_true}
 use Rattle.run_model.proofs.Views.{option_cases, test_cases}
 
 -- a start that a reply completes is ready, and gives this
 pub record IsCompleted (n : ℕ) (before : List Event) (me number : ℕ) (got : Got) : Type 0 where
-  pub ready : is_ready n before me (view_of before me) number (start_at (view_of before me) number) ≡ true
-  pub gives : IsGot n before me (view_of before me) number (start_at (view_of before me) number) got
+  pub ready : is_ready (moment_at n before me) number (start_at (view_of before me) number) ≡ true
+  pub gives : IsGot (moment_at n before me) number (start_at (view_of before me) number) got
 
 true_in : (low : ℕ) (flags : List Bool) (i : ℕ) → IsIn i (true_places low flags) → (k : ℕ) × (i ≡ low + k) × (slice_get flags k ≡ Some true)
 true_in low [] i h = absurd h
@@ -81,11 +81,11 @@ index_in : (items : List Item) (item : Item) → IsIn item items → IsIn item.i
 index_in [] item h = absurd h
 index_in (x ∷ items) item h = elim h [ inl e ↦ inl (ap (λ (i : Item). i.index) e) | inr later ↦ inr (index_in items item later) ]
 
-got_in : (n : ℕ) (before : List Event) (me : ℕ) (own : View) (starts : List ℕ) (items : List Item) (item : Item) → AreGots n before me own starts items → IsIn item items
-    → IsGot n before me own (slice_index starts item.index) (start_at own (slice_index starts item.index)) item.got
+got_in : (n : ℕ) (before : List Event) (me : ℕ) (own : View) (starts : List ℕ) (items : List Item) (item : Item) → AreGots (moment_of n before me own) starts items → IsIn item items
+    → IsGot (moment_of n before me own) (slice_index starts item.index) (start_at own (slice_index starts item.index)) item.got
 got_in n before me own starts [] item are h = absurd h
 got_in n before me own starts (x ∷ items) item are h = elim h [
-  | inl e ↦ (let G : Item → Type 0 = λ i. IsGot n before me own (slice_index starts i.index) (start_at own (slice_index starts i.index)) i.got in subst G e are.0)
+  | inl e ↦ (let G : Item → Type 0 = λ i. IsGot (moment_of n before me own) (slice_index starts i.index) (start_at own (slice_index starts i.index)) i.got in subst G e are.0)
   | inr later ↦ got_in n before me own starts items item are.1 later
 ]
 
@@ -98,28 +98,28 @@ held_takes true stuck items is = cc
 held_takes false stuck items is = (let no = is.1 in cc)
 
 take_completes : (condition : Bool) (stuck : Type 0) (n : ℕ) (before : List Event) (me : ℕ) (starts : List ℕ) (mode : TakeMode) (items : List Item) (item : Item)
-    → IsTakeAnswer condition stuck n before me (view_of before me) starts mode (Took items) → IsIn item items → IsCompleted n before me (slice_index starts item.index) item.got
+    → IsTakeAnswer condition stuck (moment_at n before me) starts mode (Took items) → IsIn item items → IsCompleted n before me (slice_index starts item.index) item.got
 take_completes true stuck n before me starts mode items item is h =
     let own : View = view_of before me in
     let same : is.items ≡ items = chosen_items me (first_long own starts is.items) is.items items is.reply_is in
     let P : List Item → Type 0 = λ l. IsIn item l in
     let there : IsIn item is.items = subst P (sym same) h in
-    let flag = chosen_true mode (flags_of n before me own starts) (map (λ (item : Item). item.index) is.items) item.index is.chosen (index_in is.items item there) in
+    let flag = chosen_true mode (flags_of (moment_of n before me own) starts) (map (λ (item : Item). item.index) is.items) item.index is.chosen (index_in is.items item there) in
     record {
-      ready = flag_at (λ k. is_ready n before me own k (start_at own k)) starts item.index true flag;
+      ready = flag_at (λ k. is_ready (moment_of n before me own) k (start_at own k)) starts item.index true flag;
       gives = got_in n before me own starts is.items item is.gots there;
     }
 take_completes false stuck n before me starts mode items item is h = absurd (held_takes (is_test mode) stuck items is)
 
 peek_takes : (found : Bool) (stuck : Type 0) (before : List Event) (me comm : ℕ) (source : Source) (tag : Tag) (wait : Bool) (items : List Item)
-    → IsPeekAnswer found stuck before me comm source tag wait (Took items) → ⊥
+    → IsPeekAnswer found stuck before (probe_of me comm source tag) wait (Took items) → ⊥
 peek_takes true stuck before me comm source tag wait items is = (let no = is.reply_is in cc)
 peek_takes false stuck before me comm source tag wait items is = held_takes (not wait) stuck items is
 
 answer_completes : (stuck : Type 0) (n : ℕ) (before : List Event) (me : ℕ) (call : Call) (items : List Item) (item : Item)
-    → IsAnswer stuck n before me (view_of before me) call (Took items) → IsIn item items → IsCompleted n before me (slice_index (listed_by call) item.index) item.got
+    → IsAnswer stuck (moment_at n before me) call (Took items) → IsIn item items → IsCompleted n before me (slice_index (listed_by call) item.index) item.got
 answer_completes stuck n before me (Take starts mode) items item is h =
-    take_completes (holds mode (flags_of n before me (view_of before me) starts)) stuck n before me starts mode items item is h
+    take_completes (mode_holds mode (flags_of (moment_at n before me) starts)) stuck n before me starts mode items item is h
 answer_completes stuck n before me (Peek comm source tag wait) items item is h = absurd (peek_takes (has_open n before me comm source tag) stuck before me comm source tag wait items is)
 answer_completes stuck n before me (Send comm dest tag ints sync) items item is h = absurd (let no : Took items ≡ Done = is in cc)
 answer_completes stuck n before me (Post comm source tag room) items item is h = absurd (let no : Took items ≡ Done = is in cc)
@@ -129,7 +129,7 @@ answer_completes stuck n before me (Trap fault) items item is h = absurd (let no
 answer_completes stuck n before me End items item is h = absurd (let no : Took items ≡ Done = is in cc)
 
 allowed_completes : (halt : Option Halt) (stuck : Type 0) (n : ℕ) (before : List Event) (me : ℕ) (call : Call) (items : List Item) (item : Item)
-    → IsAllowedBy halt stuck n before me (view_of before me) call (Took items) → IsIn item items → IsCompleted n before me (slice_index (listed_by call) item.index) item.got
+    → IsAllowedBy halt stuck (moment_at n before me) call (Took items) → IsIn item items → IsCompleted n before me (slice_index (listed_by call) item.index) item.got
 allowed_completes None stuck n before me call items item is h = answer_completes stuck n before me call items item is h
 allowed_completes (Some halt) stuck n before me call items item is h = absurd (let no : Took items ≡ Stopped halt = is in cc)
 
@@ -137,7 +137,7 @@ allowed_completes (Some halt) stuck n before me call items item is h = absurd (l
 pub item_completed : (next : Next) (n : ℕ) (before : List Event) (event : Event) (items : List Item) (item : Item) → IsEvent next n before event → event.reply ≡ Took items → IsIn item items
     → IsCompleted n before event.rank (slice_index (listed_by event.call) item.index) item.got
 item_completed next n before event items item is took h =
-    let A : Reply → Type 0 = λ reply. IsAllowedBy (due n before event.rank (view_of before event.rank) event.call) (IsStuck next n before) n before event.rank (view_of before event.rank) event.call reply in
+    let A : Reply → Type 0 = λ reply. IsAllowedBy (due n before event.rank (view_of before event.rank) event.call) (IsStuck next n before) (moment_at n before event.rank) event.call reply in
     allowed_completes (due n before event.rank (view_of before event.rank) event.call) (IsStuck next n before) n before event.rank event.call items item (subst A took is.reply) h
 
 -- 1. a message comes from the partner
@@ -150,7 +150,7 @@ from_message false true n me own enter inputs source start tag ints is = cc
 from_message false false n me own enter inputs source start tag ints is = cc
 
 got_message : (n : ℕ) (before : List Event) (me : ℕ) (own : View) (k : ℕ) (start : Option Call) (source number tag : ℕ) (ints : List ℤ)
-    → IsGot n before me own k start (GotMessage source number tag ints) → IsMessage before me k (GotMessage source number tag ints)
+    → IsGot (moment_of n before me own) k start (GotMessage source number tag ints) → IsMessage before me k (GotMessage source number tag ints)
 got_message n before me own k None source number tag ints is = absurd is
 got_message n before me own k (Some (Send comm dest t sent sync)) source number tag ints is = absurd (let no : GotMessage source number tag ints ≡ Sent = is in cc)
 got_message n before me own k (Some (Post comm Null t room)) source number tag ints is = absurd (let no : GotMessage source number tag ints ≡ Nothing = is in cc)
@@ -217,23 +217,23 @@ gathered_ok (Ok inputs) h = (inputs, refl)
 gathered_ok (Err m) h = absurd (cc)
 
 pub needed_entered : (n : ℕ) (before : List Event) (me number : ℕ) (got : Got) (comm : ℕ) (kind : _) (root : _) (op : _) (count : ℕ) (ints : List ℤ) (m : ℕ) → IsCompleted n before me number got
-    → start_at (view_of before me) number ≡ Some (Enter comm kind root op count ints) → IsIn m (members_in n (view_of before me) comm)
-    → needs (Enter comm kind root op count ints) (members_in n (view_of before me) comm) me m ≡ true
+    → start_at (view_of before me) number ≡ Some (Enter comm kind root op count ints) → IsIn m (members_for_rank n (view_of before me) comm)
+    → needs (Enter comm kind root op count ints) (members_for_rank n (view_of before me) comm) me m ≡ true
     → (entered : Entered) × (enter_at n (view_of before m) comm (instance_of (view_of before me) number comm) ≡ Some entered)
 needed_entered n before me number got comm kind root op count ints m is start there need =
     let own : View = view_of before me in
     let enter : Call = Enter comm kind root op count ints in
-    let R : Option Call → Type 0 = λ o. is_ready n before me own number o ≡ true in
+    let R : Option Call → Type 0 = λ o. is_ready (moment_of n before me own) number o ≡ true in
     let ready : is_gathered (inputs_of n (view_of before) me own number enter) ≡ true = subst R start is.ready in
     let inputs = gathered_ok (inputs_of n (view_of before) me own number enter) ready in
-    gathered_found (needs enter (members_in n own comm) me) (λ x. enter_at n (view_of before x) comm (instance_of own number comm)) (members_in n own comm) inputs.0 m inputs.1 there need
+    gathered_found (needs enter (members_for_rank n own comm) me) (λ x. enter_at n (view_of before x) comm (instance_of own number comm)) (members_for_rank n own comm) inputs.0 m inputs.1 there need
 
 -- 3. a synchronous send is paired
 
 pub sync_paired : (n : ℕ) (before : List Event) (me number : ℕ) (got : Got) (comm dest tag : ℕ) (ints : List ℤ) → IsCompleted n before me number got
     → start_at (view_of before me) number ≡ Some (Send comm dest tag ints true) → (mate : Name) × (partner_of (pairs_of before) (me, number) ≡ Some mate)
 sync_paired n before me number got comm dest tag ints is start =
-    let R : Option Call → Type 0 = λ o. is_ready n before me (view_of before me) number o ≡ true in
+    let R : Option Call → Type 0 = λ o. is_ready (moment_at n before me) number o ≡ true in
     let ready : is_some (partner_of (pairs_of before) (me, number)) ≡ true = subst R start is.ready in
     elim (option_cases (partner_of (pairs_of before) (me, number))) [
       | inl some ↦ (some.0, some.1)
@@ -245,6 +245,6 @@ sync_paired n before me number got comm dest tag ints is start =
 pub peeked_sent : (next : Next) (n : ℕ) (before : List Event) (event : Event) (source start tag count : ℕ) → IsEvent next n before event → event.reply ≡ Peeked source start tag count
     → (call : Call) × (start_at (view_of before source) start ≡ Some call)
 peeked_sent next n before event source start tag count is peeked =
-    let A : Reply → Type 0 = λ reply. IsAllowedBy (due n before event.rank (view_of before event.rank) event.call) (IsStuck next n before) n before event.rank (view_of before event.rank) event.call reply in
+    let A : Reply → Type 0 = λ reply. IsAllowedBy (due n before event.rank (view_of before event.rank) event.call) (IsStuck next n before) (moment_at n before event.rank) event.call reply in
     let send = allowed_true (due n before event.rank (view_of before event.rank) event.call) (IsStuck next n before) n before (view_of before event.rank) event.rank event.call (Peeked source start tag count) (subst A peeked is.reply) in
     (Send send.comm send.dest tag send.ints send.sync, send.sent)

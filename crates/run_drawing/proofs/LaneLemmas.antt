@@ -7,28 +7,29 @@ use Rattle.mpi_call.specs.declared.reply.Reply.{Reply}
 use Rattle.mpi_call.specs.declared.reply.Reply.TheVariants.{Done, NotYet, Peeked, Stopped, Took}
 use Rattle.mpi_call.specs.Lists.{IsIn, Rises}
 use Rattle.run_model.specs.declared.event.Event.{Event}
+use Rattle.run_model.specs.Due.{stops}
 use Rattle.run_model.specs.Program.{ends}
 use Rattle.run_model.specs.Run.{IsRun}
 use Rattle.run_model.specs.Views.{Next, view_of}
 use Rattle.run_model.proofs.RunLaws.{IsRun-event, IsRun-front, Lawful, kept_run}
 use Rattle.run_model.proofs.Views.{test_cases}
 use Rattle.group_plan.specs.Plans.{number_of_ranks}
-use Rattle.causes.specs.Before.{IsOwn}
+use Rattle.causes.specs.Before.{IsEventOfRank}
 use Rattle.causes.specs.Before.IsBefore.{step}
-use Rattle.causes.specs.Positions.{is_of, positions}
+use Rattle.causes.specs.Positions.{is_event_of, positions}
 use Rattle.causes.proofs.NewClocks.{own_step}
 use Rattle.causes.proofs.PositionLemmas.{placed-in, positions-rise}
-use Rattle.run_drawing.specs.declared.drawing.Mark.{Mark}
+use Rattle.run_drawing.specs.declared.drawing.DrawnMark.{DrawnMark}
 use Rattle.run_drawing.specs.Basis.{Basis}
-use Rattle.run_drawing.specs.Columns.{column, stops}
-use Rattle.run_drawing.specs.Drawings.{marks_from, marks_of}
+use Rattle.run_drawing.specs.Columns.{column}
+use Rattle.run_drawing.specs.Drawings.{marks_from, drawn_marks}
 use Rattle.run_drawing.specs.Drawn.{Drawn}
 use Rattle.run_drawing.specs.Laws.{LanesRise}
 use Rattle.run_drawing.proofs.ArrowLemmas.{get_in, in_joined}
 use Rattle.run_drawing.proofs.ColumnLemmas.{columns_rise}
 
 -- what a mark is of
-record IsMarked (basis : Basis) (rank number : ℕ) (places : List ℕ) (mark : Mark) : Type 0 where
+record IsMarked (basis : Basis) (rank number : ℕ) (places : List ℕ) (mark : DrawnMark) : Type 0 where
   index : ℕ
   place : ℕ
   at : slice_get places index ≡ Some place
@@ -36,18 +37,18 @@ record IsMarked (basis : Basis) (rank number : ℕ) (places : List ℕ) (mark : 
   number_is : mark.number ≡ number + index
   column_is : mark.column ≡ column basis place
 
-marked : (basis : Basis) (rank number : ℕ) (places : List ℕ) (mark : Mark) → IsIn mark (marks_from basis rank number places) → IsMarked basis rank number places mark
+marked : (basis : Basis) (rank number : ℕ) (places : List ℕ) (mark : DrawnMark) → IsIn mark (marks_from basis rank number places) → IsMarked basis rank number places mark
 marked basis rank number [] mark h = absurd h
 marked basis rank number (p ∷ places) mark h = elim h [
   | inl e ↦ (
-      let is = ap (λ (m : Mark). m.number) e in
+      let is = ap (λ (m : DrawnMark). m.number) e in
       record {
         index = 0;
         place = p;
         at = refl;
-        rank_is = sym (ap (λ (m : Mark). m.rank) e);
+        rank_is = sym (ap (λ (m : DrawnMark). m.rank) e);
         number_is = omega (arith, is);
-        column_is = sym (ap (λ (m : Mark). m.column) e);
+        column_is = sym (ap (λ (m : DrawnMark). m.column) e);
       })
   | inr later ↦ (
       let rest = marked basis rank (number + 1) places mark later in
@@ -118,29 +119,29 @@ goes_on next n events t u one other lawful run first second same less =
     let no : Some other.call ≡ None = sym event.call ∙ none in
     cc)
 
-own_at : (events : List Event) (rank p : ℕ) → IsIn p (positions (is_of rank) 0 events) → IsOwn events rank p
+own_at : (events : List Event) (rank p : ℕ) → IsIn p (positions (is_event_of rank) 0 events) → IsEventOfRank events rank p
 own_at events rank p among =
-    let placed = placed-in (is_of rank) events p among in
+    let placed = placed-in (is_event_of rank) events p among in
     record { earlier = placed.event; at = placed.there; own = eqb-true placed.event.rank rank placed.passes }
 
 pub lanes_rise : (next : Next) → Lawful next → LanesRise next
 lanes_rise next lawful plan events drawing one other run is first second same less =
     let n : ℕ = number_of_ranks plan in
     let basis : Basis = record { ranks = n; events = events; depths = is.depths; before = is.before } in
-    let M : Mark → List Mark → Type 0 = λ m l. IsIn m l in
+    let M : DrawnMark → List DrawnMark → Type 0 = λ m l. IsIn m l in
     let marks = ap (λ (d : Drawn). d.marks) is.is in
-    let of_one = in_joined (marks_of basis) n one (subst (M one) marks first) in
-    let of_other = in_joined (marks_of basis) n other (subst (M other) marks second) in
-    let left = marked basis of_one.0 0 (positions (is_of of_one.0) 0 events) one of_one.1 in
-    let right = marked basis of_other.0 0 (positions (is_of of_other.0) 0 events) other of_other.1 in
+    let of_one = in_joined (drawn_marks basis) n one (subst (M one) marks first) in
+    let of_other = in_joined (drawn_marks basis) n other (subst (M other) marks second) in
+    let left = marked basis of_one.0 0 (positions (is_event_of of_one.0) 0 events) one of_one.1 in
+    let right = marked basis of_other.0 0 (positions (is_event_of of_other.0) 0 events) other of_other.1 in
     let ranks : of_other.0 ≡ of_one.0 = sym right.rank_is ∙ sym same ∙ left.rank_is in
-    let G : ℕ → Type 0 = λ r. slice_get (positions (is_of r) 0 events) right.index ≡ Some right.place in
+    let G : ℕ → Type 0 = λ r. slice_get (positions (is_event_of r) 0 events) right.index ≡ Some right.place in
     let there = subst G ranks right.at in
     let rank : ℕ = of_one.0 in
-    let places : List ℕ = positions (is_of rank) 0 events in
+    let places : List ℕ = positions (is_event_of rank) 0 events in
     let a = left.number_is in
     let b = right.number_is in
-    let before = rising_less 0 places left.index right.index left.place right.place (positions-rise (is_of rank) 0 events) (omega (arith, a, b, less)) left.at there in
+    let before = rising_less 0 places left.index right.index left.place right.place (positions-rise (is_event_of rank) 0 events) (omega (arith, a, b, less)) left.at there in
     let earlier = own_at events rank left.place (get_in places left.index left.place left.at) in
     let later = own_at events rank right.place (get_in places right.index right.place there) in
     let goes = goes_on next n events left.place right.place earlier.earlier later.earlier lawful run earlier.at later.at (earlier.own ∙ sym later.own) before in

@@ -1,5 +1,6 @@
 -- The positions of a start's mates are those of its partner.
 use Rattle.std.proofs.Common.{◌≡◌, ◌≤◌, ◌<◌, ◌+◌, ◌==◌, ◌++◌, ◌∷◌, [], ℕ, zero, suc, Bool, List, Option, Some, None, true, false, if◌then◌else◌, inl, inr, append_assoc, append-nil, refl, ap, sym, ◌∙◌, arith, length, length-append, slice_get, subst}
+use Rattle.std.specs.Option.{option_to_list}
 use Rattle.std.proofs.lemmas.Bool.{cases_order, eq-eqb, eqb-true}
 use Rattle.std.proofs.lemmas.List.{take-append-le}
 use Rattle.std.proofs.Math.Seq.{take-append_seam}
@@ -15,7 +16,7 @@ use Rattle.run_model.proofs.StartLemmas.{slice_get-last}
 use Rattle.run_model.proofs.Views.{test_cases}
 use Rattle.picked_runs.proofs.Pairing.{new_free, new_partner, old_partner, same_name-true}
 use Rattle.picked_runs.proofs.Grown.{Grows-event, pairs_of-push}
-use Rattle.causes.specs.Positions.{is_mate_of, is_there, listed, mate_in, mates_of, positions}
+use Rattle.causes.specs.Positions.{is_mate_of, is_at_position, mates_in, mates_of, positions}
 use Rattle.causes.proofs.PositionLemmas.{positions-push}
 use Rattle.run_drawing.proofs.DepthLemmas.{equal_or_less}
 
@@ -60,15 +61,15 @@ one_position events name i j here there = elim (cases_order i j) [
 ]
 
 -- the mates of an earlier start, with one more event
-mates_push : (before : List Event) (event : Event) (at : ℕ) (b : Bool) → at < length before → is_there event.mate at ≡ b
+mates_push : (before : List Event) (event : Event) (at : ℕ) (b : Bool) → at < length before → is_at_position event.mate at ≡ b
     → mates_of (before ++ event ∷ []) at ≡ (if b then mates_of before at ++ length before ∷ [] else mates_of before at)
 mates_push before event at true low h =
     rw (get_front before (event ∷ []) at low, positions-push (is_mate_of at) before event, h)
-    (sym (append_assoc (mate_in (slice_get before at)) (positions (is_mate_of at) 0 before) (length before ∷ [])))
+    (sym (append_assoc (mates_in (slice_get before at)) (positions (is_mate_of at) 0 before) (length before ∷ [])))
 mates_push before event at false low h = rw (get_front before (event ∷ []) at low, positions-push (is_mate_of at) before event, h) refl
 
 -- those of the new one
-mates_new : (before : List Event) (event : Event) → HasMates before → is_there event.mate (length before) ≡ false → mates_of (before ++ event ∷ []) (length before) ≡ listed event.mate
+mates_new : (before : List Event) (event : Event) → HasMates before → is_at_position event.mate (length before) ≡ false → mates_of (before ++ event ∷ []) (length before) ≡ option_to_list event.mate
 mates_new before event has apart =
     rw (slice_get-last before event, positions-push (is_mate_of (length before)) before event, apart, has.early (length before) (omega arith), append-nil) refl
 
@@ -122,7 +123,7 @@ old_placed : (before : List Event) (event : Event) (mate : Option ℕ) (at : ℕ
 old_placed before event None at name h has mates there =
     let E : List Event = before ++ event ∷ [] in
     let low = name_at-below before at name there in
-    let same : mates_of E at ≡ mates_of before at = mates_push before event at false low (ap (λ o. is_there o at) h) in
+    let same : mates_of E at ≡ mates_of before at = mates_push before event at false low (ap (λ o. is_at_position o at) h) in
     let P : List (Name × Name) → Type 0 = λ l. IsPlaced E (partner_of l name) (mates_of E at) in
     let M : List ℕ → Type 0 = λ l. IsPlaced E (partner_of (pairs_of before) name) l in
     subst P (sym (pairs_alone before event h))
@@ -143,7 +144,7 @@ old_placed before event (Some m) at name h has mates there =
           let free : partner_of (pairs_of before) name ≡ None = subst F is paired.free in
           let Q : Option Name → Type 0 = λ o. IsPlaced before o (mates_of before at) in
           let none : mates_of before at ≡ [] = subst Q free (has.placed at name there) in
-          let long : mates_of E at ≡ length before ∷ [] = mates_push before event at true low (ap (λ o. is_there o at) h ∙ t) ∙ ap (λ l. l ++ length before ∷ []) none in
+          let long : mates_of E at ≡ length before ∷ [] = mates_push before event at true low (ap (λ o. is_at_position o at) h ∙ t) ∙ ap (λ l. l ++ length before ∷ []) none in
           let L : Name → Type 0 = λ n. partner_of (pairs_of before ++ (n, new) ∷ []) name ≡ Some new in
           let partner : partner_of (pairs_of before ++ (paired.name, new) ∷ []) name ≡ Some new = subst L (sym is) (old_partner (pairs_of before) name new free) in
           let R : Option Name → Type 0 = λ o. IsPlaced E o (mates_of E at) in
@@ -155,7 +156,7 @@ old_placed before event (Some m) at name h has mates there =
           let no : false ≡ true = sym t ∙ yes_is in
           cc) in
           let partner = partner_beside (pairs_of before) paired.name new name apart (new_apart before event at name paired.start there) in
-          let same : mates_of E at ≡ mates_of before at = mates_push before event at false low (ap (λ o. is_there o at) h ∙ t) in
+          let same : mates_of E at ≡ mates_of before at = mates_push before event at false low (ap (λ o. is_at_position o at) h ∙ t) in
           let M : List ℕ → Type 0 = λ l. IsPlaced E (partner_of (pairs_of before) name) l in
           let R : Option Name → Type 0 = λ o. IsPlaced E o (mates_of E at) in
           subst P (sym grown) (subst R (sym partner)
@@ -168,7 +169,7 @@ new_placed : (before : List Event) (event : Event) (mate : Option ℕ) (name : N
     → IsPlaced (before ++ event ∷ []) (partner_of (pairs_of (before ++ event ∷ [])) name) (mates_of (before ++ event ∷ []) (length before))
 new_placed before event None name h has mates start is =
     let E : List Event = before ++ event ∷ [] in
-    let none : mates_of E (length before) ≡ [] = mates_new before event has (ap (λ o. is_there o (length before)) h) ∙ ap listed h in
+    let none : mates_of E (length before) ≡ [] = mates_new before event has (ap (λ o. is_at_position o (length before)) h) ∙ ap option_to_list h in
     let free : partner_of (pairs_of before) (new_name before event) ≡ None = new_free (named before) (named E) (pairs_of before) (new_name before event) has.matched (Grows-event before event start) in
     let partner : partner_of (pairs_of E) name ≡ None = ap (λ l. partner_of l name) (pairs_alone before event h) ∙ (ap (partner_of (pairs_of before)) (sym is) ∙ free) in
     let R : Option Name → Type 0 = λ o. IsPlaced E o (mates_of E (length before)) in
@@ -182,7 +183,7 @@ new_placed before event (Some m) name h has mates start is =
       | inl t ↦ (let e = eqb-true m (length before) t in absurd (omega (arith, low, e)))
       | inr t ↦ t
     ] in
-    let long : mates_of E (length before) ≡ m ∷ [] = mates_new before event has (ap (λ o. is_there o (length before)) h ∙ apart) ∙ ap listed h in
+    let long : mates_of E (length before) ≡ m ∷ [] = mates_new before event has (ap (λ o. is_at_position o (length before)) h ∙ apart) ∙ ap option_to_list h in
     let free : partner_of (pairs_of before) new ≡ None = new_free (named before) (named E) (pairs_of before) new has.matched (Grows-event before event start) in
     let not_old : paired.name ≡ new → ⊥ = λ e. new_apart before event m paired.name start paired.there (sym e) in
     let partner : partner_of (pairs_of E) name ≡ Some paired.name =
@@ -192,12 +193,12 @@ new_placed before event (Some m) name h has mates start is =
     subst R (sym partner) (m, long, name_stays before (event ∷ []) m paired.name paired.there)
 
 -- a mate of nobody's who is yet to come
-mate_early : (before : List Event) (event : Event) (mate : Option ℕ) (at : ℕ) → event.mate ≡ mate → HasMate before event → length before ≤ at → is_there event.mate at ≡ false
-mate_early before event None at h mates low = ap (λ o. is_there o at) h
+mate_early : (before : List Event) (event : Event) (mate : Option ℕ) (at : ℕ) → event.mate ≡ mate → HasMate before event → length before ≤ at → is_at_position event.mate at ≡ false
+mate_early before event None at h mates low = ap (λ o. is_at_position o at) h
 mate_early before event (Some m) at h mates low =
     let paired = paired_by before event m h mates in
     let less = name_at-below before m paired.name paired.there in
-    ap (λ o. is_there o at) h ∙ elim (test_cases (m == at)) [
+    ap (λ o. is_at_position o at) h ∙ elim (test_cases (m == at)) [
       | inl t ↦ (let e = eqb-true m at t in absurd (omega (arith, low, less, e)))
       | inr t ↦ t
     ]

@@ -28,7 +28,7 @@ receiver_of next n events at event items item rank start tag ints run there took
     let G : Got → Type 0 = λ g. IsCompleted n (take at events) me number g in
     let completed = subst G gives (item_completed next n (take at events) event items item (event_there next n events at event run there) took among) in
     let paired = partner_later events at (me, number) (rank, start) (from_partner n (take at events) me number rank start tag ints completed).paired in
-    (run_mates next n events run).matched.single (me, number) (rank, start) paired
+    (run_mates next n events run).matched.one_partner (me, number) (rank, start) paired
 
 pub same_mates : (next : Next) → SameMates next
 same_mates next n one other first second views received rank start awaited =

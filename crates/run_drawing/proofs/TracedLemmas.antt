@@ -4,11 +4,11 @@ use Rattle.std.proofs.lemmas.List.{take-append-le}
 use Rattle.run_model.specs.declared.event.Event.{Event}
 use Rattle.causes.specs.Beside.{AreTables}
 use Rattle.causes.specs.Steps.{rests_on}
-use Rattle.msg_races.specs.Listing.{joined}
+use Rattle.msg_races.specs.Listing.{lists_below}
 use Rattle.run_drawing.specs.declared.tracing.Tracing.{Tracing}
 use Rattle.run_drawing.specs.Depths.{AreDepths, IsDepth}
-use Rattle.run_drawing.specs.Links.{cause_at, cause_in, deeper, deepest, depth_after, last_of, links_at, links_by, links_from}
-use Rattle.run_drawing.specs.Scenes.{AreIndexed, AreTraced, IsTraced}
+use Rattle.run_drawing.specs.Links.{cause_at, cause_in, deeper, deepest, depth_after, last_position, links_at, links_by, event_links}
+use Rattle.run_drawing.specs.inside.Scenes.{AreIndexed, AreTraced, IsTraced}
 use Rattle.run_drawing.proofs.DepthLemmas.{depth_low, equal_or_less, next_depth}
 
 pub take_next : {A : Type 0} (xs : List A) (k : ℕ) (x : A) → slice_get xs k ≡ Some x → take (suc k) xs ≡ take k xs ++ x ∷ []
@@ -98,8 +98,8 @@ traced_more n events k event old new traced added =
             links =
                 added.links
                 ∙ ap (λ l. l ++ links_by n old.depths.items (take k events) event.rank event.call event.reply) (traced.traced whole same).links
-                ∙ ap (λ l. joined (links_at n events whole) k ++ links_by n l (take k events) event.rank event.call event.reply) (sym same)
-                ∙ ap (λ o. joined (links_at n events whole) k ++ links_from n (take k whole) (take k events) o) (sym added.there);
+                ∙ ap (λ l. lists_below (links_at n events whole) k ++ links_by n l (take k events) event.rank event.call event.reply) (sym same)
+                ∙ ap (λ o. lists_below (links_at n events whole) k ++ event_links n (take k whole) (take k events) o) (sym added.there);
           };
     }
 
@@ -137,7 +137,7 @@ late_of n events tracing traced p = elim (less_or_past p (length events)) [
 ]
 
 pub links_of : (n : ℕ) (events : List Event) (tracing : Tracing) → IsTraced n events (length events) tracing
-    → tracing.links.list.items ≡ joined (links_at n events tracing.depths.items) (length events)
+    → tracing.links.list.items ≡ lists_below (links_at n events tracing.depths.items) (length events)
 links_of n events tracing traced = (all_traced n events tracing traced).links
 
 -- depths are small
@@ -161,7 +161,7 @@ pub record IsNoted (n : ℕ) (events : List Event) (k : ℕ) (event : Event) (ol
   pub tables : AreTables (take k events ++ event ∷ []) new.tables
   pub ranks : new.tables.ranks ≡ old.tables.ranks
   pub depths_new : new.depths.items ≡ old.depths.items ++ depth ∷ []
-  pub depth_is : depth ≡ depth_after old.depths.items (deeper old.depths.items (last_of (take k events) event.rank) cause)
+  pub depth_is : depth ≡ depth_after old.depths.items (deeper old.depths.items (last_position (take k events) event.rank) cause)
   pub causes : new.causes.items ≡ old.causes.items ++ cause ∷ []
   pub cause_is : cause ≡ deepest old.depths.items (rests_on n (take k events) event.rank event.call event.reply)
   pub indexed : AreIndexed new.links

@@ -11,37 +11,38 @@ use Rattle.mpi_call.specs.declared.reply.Item.{Item}
 use Rattle.mpi_call.specs.declared.reply.Reply.{Reply}
 use Rattle.mpi_call.specs.declared.reply.Reply.TheVariants.{Done, NotYet, Peeked, Stopped, Took}
 use Rattle.mpi_call.specs.Acceptance.{accepts}
-use Rattle.mpi_call.specs.Calls.{listed_by}
+use Rattle.mpi_call.specs.Calls.{is_wildcard, listed_by}
 use Rattle.mpi_call.specs.Lists.{IsIn}
 use Rattle.run_model.specs.declared.event.Event.{Event}
-use Rattle.run_model.specs.Views.{Next, View, is_start}
+use Rattle.run_model.specs.Due.{stops}
+use Rattle.run_model.specs.Views.{Next, View, is_start, rank_of_event}
 use Rattle.run_model.proofs.ChosenGots.{accepted_send}
 use Rattle.run_model.proofs.StartLemmas.{slice_get-below}
 use Rattle.run_model.proofs.Views.{test_cases}
 use Rattle.group_plan.specs.Plans.{number_of_ranks}
 use Rattle.causes.specs.Before.{IsBefore}
-use Rattle.causes.specs.Clocks.{Tells}
-use Rattle.causes.specs.Positions.{is_of, is_start_of, positions, start_position}
+use Rattle.causes.specs.Clocks.{TellsBefore}
+use Rattle.causes.specs.Positions.{is_event_of, is_start_of, positions, start_position}
 use Rattle.causes.specs.Steps.{rests_on}
 use Rattle.causes.proofs.PositionLemmas.{placed-in}
 use Rattle.msg_races.specs.declared.sends.Way.{Way}
-use Rattle.msg_races.specs.Listing.{joined}
-use Rattle.msg_races.specs.Ways.{goes, tag_of}
+use Rattle.msg_races.specs.Listing.{lists_below}
+use Rattle.msg_races.specs.Ways.{goes_way, named_tag}
 use Rattle.run_drawing.specs.declared.drawing.Arrow.{Arrow}
-use Rattle.run_drawing.specs.declared.drawing.Collective.{Collective}
-use Rattle.run_drawing.specs.declared.drawing.Mark.{Mark}
-use Rattle.run_drawing.specs.declared.drawing.Message.{Message}
+use Rattle.run_drawing.specs.declared.drawing.DrawnCollective.{DrawnCollective}
+use Rattle.run_drawing.specs.declared.drawing.DrawnMark.{DrawnMark}
+use Rattle.run_drawing.specs.declared.drawing.DrawnMessage.{DrawnMessage}
 use Rattle.run_drawing.specs.declared.drawing.Point.{Point}
-use Rattle.run_drawing.specs.declared.drawing.Receive.{Receive}
+use Rattle.run_drawing.specs.declared.drawing.DrawnReceive.{DrawnReceive}
 use Rattle.run_drawing.specs.declared.drawing.Unreceived.{Unreceived}
-use Rattle.run_drawing.specs.declared.links.Link.{Link}
+use Rattle.run_drawing.specs.declared.links.CompletedStart.{CompletedStart}
 use Rattle.run_drawing.specs.Basis.{Basis}
-use Rattle.run_drawing.specs.Choices.{choice_beside, first_open, is_done_before, is_open, unless_late, way_of}
-use Rattle.run_drawing.specs.Columns.{behind_all, behind_first, column, column_behind, column_by, columns_of, point, rank_in, stops}
-use Rattle.run_drawing.specs.Drawings.{arrow_from, choices_by, collective_at, collective_by, collective_in, collective_of, column_in, drawn, end_of, groups_of, is_any, is_wildcard, is_wildcard_at, is_wildcard_in, latest_of, mark_at, marks_from, marks_of, message_by, message_from, of_events, of_starts, probe_at, probe_by, probe_in, receive_at, receive_by, receive_in, receive_of, takes_wildcard, takes_wildcard_in, unreceived_at, unreceived_by, unreceived_in, unreceived_of}
+use Rattle.run_drawing.specs.Choices.{choice_beside, first_untaken, is_done_before, is_untaken, unless_late, message_way, posted_at}
+use Rattle.run_drawing.specs.Columns.{behind_all, behind_first, column, column_behind, column_by, columns_of, point}
+use Rattle.run_drawing.specs.Drawings.{arrow_from, wildcard_choices, collective_at, collective_by, collective_in, collective_of, column_in, drawn, bar_end, rank_groups, is_any, is_wildcard_at, is_wildcard_in, latest_of, mark_at, marks_from, drawn_marks, completed_message, drawn_message, of_events, of_starts, probe_at, probe_by, probe_in, receive_at, receive_by, receive_in, drawn_receive, takes_wildcard, takes_wildcard_in, unreceived_at, unreceived_by, unreceived_in, unreceived_of}
 use Rattle.run_drawing.specs.Drawn.{Drawn}
 use Rattle.run_drawing.specs.Laws.{SameDrawing}
-use Rattle.run_drawing.specs.Links.{cause_at, cause_in, completion_in, deepest, last_of, taker_in}
+use Rattle.run_drawing.specs.Links.{cause_at, cause_in, completion_in, deepest, last_position, taker_in}
 use Rattle.run_drawing.proofs.Alike.{AreAlike, IsAlike, alike_find, find_found, same_flat, same_joined}
 use Rattle.run_drawing.proofs.ColumnLemmas.{going_behind}
 use Rattle.run_drawing.proofs.Twins.{AreSaid, IsTwin, as_many_seen, own_twins, place_of, said, same_less, same_test, turned, twin_there}
@@ -58,8 +59,8 @@ basis_by n events depths before = record { ranks = n; events = events; depths = 
 -- the sides, and the tests of what is before what
 record AreTwinBases (next : Next) (n : ℕ) (one other : List Event) (depths depths' : List ℕ) (before before' : ℕ → ℕ → Bool) : Type 0 where
   sides : AreTwinSides next n one other depths depths'
-  tells : Tells before n one
-  tells_too : Tells before' n other
+  tells : TellsBefore before n one
+  tells_too : TellsBefore before' n other
 
 -- all that both are made from
 record Pair : Type 0 where
@@ -82,7 +83,7 @@ right pair = basis_by pair.n pair.other pair.depths' pair.before'
 abbrev Twin : Pair → ℕ → ℕ → Type 0
 Twin pair p q = IsTwin pair.one pair.other p q
 
-abbrev TwinLink : Pair → Link → Link → Type 0
+abbrev TwinLink : Pair → CompletedStart → CompletedStart → Type 0
 TwinLink pair l l' = IsTwinLink pair.one pair.other l l'
 
 both_said : (pair : Pair) (p q : ℕ) → Twin pair p q → AreSaid pair.one pair.other p q
@@ -170,15 +171,15 @@ column_same pair p q twin =
     ∙ (ap (λ d. stop C d (stops both.twin.reply)) deep
     ∙ ap (column_by C (get_or pair.depths' q 0)) (sym both.twin_there))))
 
-rank_same : (pair : Pair) (p q : ℕ) → Twin pair p q → rank_in (slice_get pair.one p) ≡ rank_in (slice_get pair.other q)
+rank_same : (pair : Pair) (p q : ℕ) → Twin pair p q → rank_of_event (slice_get pair.one p) ≡ rank_of_event (slice_get pair.other q)
 rank_same pair p q twin =
     let both = both_said pair p q twin in
-    ap rank_in both.there ∙ (sym both.rank_is ∙ ap rank_in (sym both.twin_there))
+    ap rank_of_event both.there ∙ (sym both.rank_is ∙ ap rank_of_event (sym both.twin_there))
 
 point_same : (pair : Pair) (p q : ℕ) → Twin pair p q → point (left pair) p ≡ point (right pair) q
 point_same pair p q twin =
     let at : ℕ → ℕ → Point = λ r c. record { rank = r; column = c } in
-    ap (λ r. at r (column (left pair) p)) (rank_same pair p q twin) ∙ ap (at (rank_in (slice_get pair.other q))) (column_same pair p q twin)
+    ap (λ r. at r (column (left pair) p)) (rank_same pair p q twin) ∙ ap (at (rank_of_event (slice_get pair.other q))) (column_same pair p q twin)
 
 -- the number of columns
 any_found : {A : Type 0} (test : A → Bool) (xs : List A) → list_any test xs ≡ true → (k : ℕ) × (x : A) × (slice_get xs k ≡ Some x) × (test x ≡ true)
@@ -263,7 +264,7 @@ takes_same_in pair p q twin =
 
 mark_same : (pair : Pair) (rank number p q : ℕ) → Twin pair p q → mark_at (left pair) rank number p ≡ mark_at (right pair) rank number q
 mark_same pair rank number p q twin =
-    let at : ℕ → Bool → Mark = λ c w. record { rank = rank; number = number; column = c; is_wild = w } in
+    let at : ℕ → Bool → DrawnMark = λ c w. record { rank = rank; number = number; column = c; is_wild = w } in
     ap (λ c. at c (takes_wildcard_in pair.one (slice_get pair.one p))) (column_same pair p q twin) ∙ ap (at (column (right pair) q)) (takes_same_in pair p q twin)
 
 marks_same : (pair : Pair) (rank number : ℕ) (places places' : List ℕ) → AreAlike (Twin pair) places places' → marks_from (left pair) rank number places ≡ marks_from (right pair) rank number places'
@@ -283,7 +284,7 @@ twin_rank one other p q event twin there =
     let same : place.event ≡ event = cc in
     sym place.own ∙ ap (λ (e : Event). e.rank) same
 
-done_same : (pair : Pair) (p q s s' : ℕ) (rank : ℕ) (send : Event) (comm dest tag : ℕ) (ints : List ℤ) (sync : Bool) (o o' : Option Link) (twin : Twin pair p q) → twin.rank ≡ rank
+done_same : (pair : Pair) (p q s s' : ℕ) (rank : ℕ) (send : Event) (comm dest tag : ℕ) (ints : List ℤ) (sync : Bool) (o o' : Option CompletedStart) (twin : Twin pair p q) → twin.rank ≡ rank
     → slice_get pair.one s ≡ Some send → send.call ≡ Send comm dest tag ints sync → dest ≡ rank
     → taker_in (links_of pair.n pair.one pair.depths) s ≡ o → IsAlike (TwinLink pair) o o' → is_done_before p o ≡ is_done_before q o'
 done_same pair p q s s' rank send comm dest tag ints sync None None twin own there called to is alike = refl
@@ -296,15 +297,15 @@ done_same pair p q s s' rank send comm dest tag ints sync (Some l) (Some l') twi
     same_less pair.one pair.other l.at l'.at p q alike.at twin ranks
 
 -- the Sends of a way are those of a rank
-goes_test : (way : Way) → IsTestOf (goes way) (λ (seen : Call × Reply). is_start seen && accepts way.receiver way.comm Any (tag_of way.tag) way.sender seen.0) way.sender
+goes_test : (way : Way) → IsTestOf (goes_way way) (λ (seen : Call × Reply). is_start seen && accepts way.receiver way.comm Any (named_tag way.tag) way.sender seen.0) way.sender
 goes_test way event = elim (test_cases (event.rank == way.sender)) [
   | inl t ↦ (
       let same : event.rank ≡ way.sender = eqb-true event.rank way.sender t in
-      let A : ℕ → Bool = λ r. accepts way.receiver way.comm Any (tag_of way.tag) r event.call in
+      let A : ℕ → Bool = λ r. accepts way.receiver way.comm Any (named_tag way.tag) r event.call in
       let moved : A event.rank ≡ A way.sender = ap A same in
       by_parts (is_start (event.call, event.reply)) (event.rank == way.sender) (A event.rank) (A way.sender) t moved)
-  | inr t ↦ no_parts (is_start (event.call, event.reply)) (event.rank == way.sender) (accepts way.receiver way.comm Any (tag_of way.tag) event.rank event.call)
-      (accepts way.receiver way.comm Any (tag_of way.tag) way.sender event.call) t
+  | inr t ↦ no_parts (is_start (event.call, event.reply)) (event.rank == way.sender) (accepts way.receiver way.comm Any (named_tag way.tag) event.rank event.call)
+      (accepts way.receiver way.comm Any (named_tag way.tag) way.sender event.call) t
 ]
   where
     by_parts : (s r a b : Bool) → r ≡ true → a ≡ b → (s && (r && a)) ≡ ((s && b) && r)
@@ -334,14 +335,14 @@ record IsSentTo (events : List Event) (s rank : ℕ) : Type 0 where
   called : send.call ≡ Send comm dest tag ints sync
   receiver : dest ≡ rank
 
-sent_to : (events : List Event) (way : Way) (s : ℕ) → IsIn s (positions (goes way) 0 events) → IsSentTo events s way.receiver
+sent_to : (events : List Event) (way : Way) (s : ℕ) → IsIn s (positions (goes_way way) 0 events) → IsSentTo events s way.receiver
 sent_to events way s among =
-    let placed = placed-in (goes way) events s among in
+    let placed = placed-in (goes_way way) events s among in
     let e : Event = placed.event in
-    let parts = and_parts (is_start (e.call, e.reply)) ((e.rank == way.sender) && accepts way.receiver way.comm Any (tag_of way.tag) e.rank e.call) placed.passes in
-    let accepted = (and_parts (e.rank == way.sender) (accepts way.receiver way.comm Any (tag_of way.tag) e.rank e.call) parts.1).1 in
-    let is = accepted_send way.receiver way.comm Any (tag_of way.tag) e.rank e.call accepted in
-    let A : Call → Type 0 = λ c. accepts way.receiver way.comm Any (tag_of way.tag) e.rank c ≡ true in
+    let parts = and_parts (is_start (e.call, e.reply)) ((e.rank == way.sender) && accepts way.receiver way.comm Any (named_tag way.tag) e.rank e.call) placed.passes in
+    let accepted = (and_parts (e.rank == way.sender) (accepts way.receiver way.comm Any (named_tag way.tag) e.rank e.call) parts.1).1 in
+    let is = accepted_send way.receiver way.comm Any (named_tag way.tag) e.rank e.call accepted in
+    let A : Call → Type 0 = λ c. accepts way.receiver way.comm Any (named_tag way.tag) e.rank c ≡ true in
     let by_parts = and_parts (is.comm == way.comm) ((is.dest == way.receiver) && _) (subst A is.is accepted) in
     record {
       send = e;
@@ -355,7 +356,7 @@ sent_to events way s among =
       receiver = eqb-true is.dest way.receiver (and_parts (is.dest == way.receiver) _ by_parts.1).0;
     }
 
-open_same : (pair : Pair) (p q rank s s' : ℕ) (twin : Twin pair p q) → twin.rank ≡ rank → IsSentTo pair.one s rank → Twin pair s s' → is_open (left pair) p s ≡ is_open (right pair) q s'
+open_same : (pair : Pair) (p q rank s s' : ℕ) (twin : Twin pair p q) → twin.rank ≡ rank → IsSentTo pair.one s rank → Twin pair s s' → is_untaken (left pair) p s ≡ is_untaken (right pair) q s'
 open_same pair p q rank s s' twin own sent its =
     let sides = pair.are.sides in
     let takers = taker_twins pair.next pair.n pair.one pair.other pair.depths pair.depths' s s' sent.send sent.comm sent.dest sent.tag sent.ints sent.sync sides its sent.there sent.called in
@@ -375,42 +376,42 @@ late_same pair at at' (Some p) (Some q) twin alike =
     ]
 
 beside_same : (pair : Pair) (rank comm : ℕ) (tag : Tag) (p q at at' took sender : ℕ) (twin : Twin pair p q) → twin.rank ≡ rank → Twin pair at at'
-    → choice_beside (left pair) rank comm tag p at took sender ≡ choice_beside (right pair) rank comm tag q at' took sender
+    → choice_beside (left pair) (posted_at p rank comm Any tag) at took sender ≡ choice_beside (right pair) (posted_at q rank comm Any tag) at' took sender
 beside_same pair rank comm tag p q at at' took sender twin own its =
-    let way : Way = way_of rank comm tag sender in
-    let passes : Call × Reply → Bool = λ (seen : Call × Reply). is_start seen && accepts way.receiver way.comm Any (tag_of way.tag) way.sender seen.0 in
-    let sends = all_passing (goes way) passes sender pair.one pair.other (goes_test way) (pair.are.sides.runs.views sender) in
-    let open_ones = alike_find (Twin pair) (is_open (left pair) p) (is_open (right pair) q) (positions (goes way) 0 pair.one) (positions (goes way) 0 pair.other)
+    let way : Way = message_way rank comm tag sender in
+    let passes : Call × Reply → Bool = λ (seen : Call × Reply). is_start seen && accepts way.receiver way.comm Any (named_tag way.tag) way.sender seen.0 in
+    let sends = all_passing (goes_way way) passes sender pair.one pair.other (goes_test way) (pair.are.sides.runs.views sender) in
+    let open_ones = alike_find (Twin pair) (is_untaken (left pair) p) (is_untaken (right pair) q) (positions (goes_way way) 0 pair.one) (positions (goes_way way) 0 pair.other)
     (λ s s' among twins. open_same pair p q rank s s' twin own (sent_to pair.one way s among) twins) sends in
-    let same = late_same pair at at' (first_open (left pair) p (positions (goes way) 0 pair.one)) (first_open (right pair) q (positions (goes way) 0 pair.other)) its open_ones in
+    let same = late_same pair at at' (first_untaken (left pair) p (positions (goes_way way) 0 pair.one)) (first_untaken (right pair) q (positions (goes_way way) 0 pair.other)) its open_ones in
     elim (test_cases (sender == took)) [
       | inl t ↦ rw t refl
       | inr t ↦ rw t same
     ]
 
 choices_same : (pair : Pair) (rank comm : ℕ) (source : Source) (tag : Tag) (p q at at' took : ℕ) (twin : Twin pair p q) → twin.rank ≡ rank → Twin pair at at'
-    → choices_by (left pair) rank comm source tag p at took ≡ choices_by (right pair) rank comm source tag q at' took
+    → wildcard_choices (left pair) (posted_at p rank comm source tag) at took ≡ wildcard_choices (right pair) (posted_at q rank comm source tag) at' took
 choices_same pair rank comm Any tag p q at at' took twin own its =
-    same_joined (choice_beside (left pair) rank comm tag p at took) (choice_beside (right pair) rank comm tag q at' took) pair.n (λ sender. beside_same pair rank comm tag p q at at' took sender twin own its)
+    same_joined (choice_beside (left pair) (posted_at p rank comm Any tag) at took) (choice_beside (right pair) (posted_at q rank comm Any tag) at' took) pair.n (λ sender. beside_same pair rank comm tag p q at at' took sender twin own its)
 choices_same pair rank comm (From from) tag p q at at' took twin own its = refl
 choices_same pair rank comm Null tag p q at at' took twin own its = refl
 
 -- 6. receives
 
 message_same : (pair : Pair) (rank comm : ℕ) (source : Source) (tag : Tag) (p q at at' : ℕ) (o o' : Option ℕ) (twin : Twin pair p q) → twin.rank ≡ rank → Twin pair at at' → IsAlike (Twin pair) o o'
-    → message_from (left pair) rank comm source tag p at o ≡ message_from (right pair) rank comm source tag q at' o'
+    → drawn_message (left pair) (posted_at p rank comm source tag) at o ≡ drawn_message (right pair) (posted_at q rank comm source tag) at' o'
 message_same pair rank comm source tag p q at at' None None twin own its alike = refl
 message_same pair rank comm source tag p q at at' None (Some s') twin own its alike = absurd alike
 message_same pair rank comm source tag p q at at' (Some s) None twin own its alike = absurd alike
 message_same pair rank comm source tag p q at at' (Some s) (Some s') twin own its alike =
-    let by : Point → List Point → Option Message = λ x l. Some (record { sender = x; choices = l }) in
-    let took : ℕ = rank_in (slice_get pair.one s) in
-    ap (λ x. by x (choices_by (left pair) rank comm source tag p at took)) (point_same pair s s' alike)
+    let by : Point → List Point → Option DrawnMessage = λ x l. Some (record { sender = x; choices = l }) in
+    let took : ℕ = rank_of_event (slice_get pair.one s) in
+    ap (λ x. by x (wildcard_choices (left pair) (posted_at p rank comm source tag) at took)) (point_same pair s s' alike)
     ∙ (ap (by (point (right pair) s')) (choices_same pair rank comm source tag p q at at' took twin own its)
-    ∙ ap (λ t. by (point (right pair) s') (choices_by (right pair) rank comm source tag q at' t)) (rank_same pair s s' alike))
+    ∙ ap (λ t. by (point (right pair) s') (wildcard_choices (right pair) (posted_at q rank comm source tag) at' t)) (rank_same pair s s' alike))
 
-received_same : (pair : Pair) (rank comm : ℕ) (source : Source) (tag : Tag) (p q : ℕ) (o o' : Option Link) (twin : Twin pair p q) → twin.rank ≡ rank → IsAlike (TwinLink pair) o o'
-    → message_by (left pair) rank comm source tag p o ≡ message_by (right pair) rank comm source tag q o'
+received_same : (pair : Pair) (rank comm : ℕ) (source : Source) (tag : Tag) (p q : ℕ) (o o' : Option CompletedStart) (twin : Twin pair p q) → twin.rank ≡ rank → IsAlike (TwinLink pair) o o'
+    → completed_message (left pair) (posted_at p rank comm source tag) o ≡ completed_message (right pair) (posted_at q rank comm source tag) o'
 received_same pair rank comm source tag p q None None twin own alike = refl
 received_same pair rank comm source tag p q None (Some l') twin own alike = absurd alike
 received_same pair rank comm source tag p q (Some l) None twin own alike = absurd alike
@@ -423,17 +424,17 @@ column_in_same pair None (Some q) alike = absurd alike
 column_in_same pair (Some p) None alike = absurd alike
 column_in_same pair (Some p) (Some q) alike = column_same pair p q alike
 
-last_twins : (pair : Pair) (rank : ℕ) → IsAlike (Twin pair) (last_of pair.one rank) (last_of pair.other rank)
+last_twins : (pair : Pair) (rank : ℕ) → IsAlike (Twin pair) (last_position pair.one rank) (last_position pair.other rank)
 last_twins pair rank =
-    let places : List ℕ = positions (is_of rank) 0 pair.one in
-    let places' : List ℕ = positions (is_of rank) 0 pair.other in
+    let places : List ℕ = positions (is_event_of rank) 0 pair.one in
+    let places' : List ℕ = positions (is_event_of rank) 0 pair.other in
     let long : length places ≡ length places' = as_many_seen rank 0 pair.one ∙ (ap (λ (v : View). length v) (pair.are.sides.runs.views rank) ∙ sym (as_many_seen rank 0 pair.other)) in
     let same = both_or_none places places' (length places - 1) (Twin pair) long (λ p q h h'. record { rank = rank; number = length places - 1; first = h; second = h' }) in
-    let P : ℕ → Type 0 = λ k. IsAlike (Twin pair) (last_of pair.one rank) (slice_get places' (k - 1)) in
+    let P : ℕ → Type 0 = λ k. IsAlike (Twin pair) (last_position pair.one rank) (slice_get places' (k - 1)) in
     subst P long same
 
-end_same : (pair : Pair) (rank : ℕ) (o o' : Option Link) → IsAlike (TwinLink pair) o o' → end_of (left pair) rank o ≡ end_of (right pair) rank o'
-end_same pair rank None None alike = column_in_same pair (last_of pair.one rank) (last_of pair.other rank) (last_twins pair rank)
+end_same : (pair : Pair) (rank : ℕ) (o o' : Option CompletedStart) → IsAlike (TwinLink pair) o o' → bar_end (left pair) rank o ≡ bar_end (right pair) rank o'
+end_same pair rank None None alike = column_in_same pair (last_position pair.one rank) (last_position pair.other rank) (last_twins pair rank)
 end_same pair rank None (Some l') alike = absurd alike
 end_same pair rank (Some l) None alike = absurd alike
 end_same pair rank (Some l) (Some l') alike = column_same pair l.at l'.at alike.at
@@ -442,15 +443,15 @@ completions : (pair : Pair) (p q : ℕ) → Twin pair p q → IsAlike (TwinLink 
 completions pair p q twin = completion_twins pair.next pair.n pair.one pair.other pair.depths pair.depths' p q pair.are.sides twin
 
 receive_same : (pair : Pair) (rank comm : ℕ) (source : Source) (tag : Tag) (p q : ℕ) (twin : Twin pair p q) → twin.rank ≡ rank
-    → receive_of (left pair) p rank comm source tag (completion_in (links_of pair.n pair.one pair.depths) p) ≡ receive_of (right pair) q rank comm source tag (completion_in (links_of pair.n pair.other pair.depths') q)
+    → drawn_receive (left pair) (posted_at p rank comm source tag) (completion_in (links_of pair.n pair.one pair.depths) p) ≡ drawn_receive (right pair) (posted_at q rank comm source tag) (completion_in (links_of pair.n pair.other pair.depths') q)
 receive_same pair rank comm source tag p q twin own =
-    let o : Option Link = completion_in (links_of pair.n pair.one pair.depths) p in
-    let o' : Option Link = completion_in (links_of pair.n pair.other pair.depths') q in
+    let o : Option CompletedStart = completion_in (links_of pair.n pair.one pair.depths) p in
+    let o' : Option CompletedStart = completion_in (links_of pair.n pair.other pair.depths') q in
     let alike = completions pair p q twin in
-    let by : ℕ → ℕ → Option Message → Receive = λ f t m. record { rank = rank; from = f; to = t; is_wild = is_any source; message = m } in
-    ap (λ f. by f (end_of (left pair) rank o) (message_by (left pair) rank comm source tag p o)) (column_same pair p q twin)
-    ∙ (ap (λ t. by (column (right pair) q) t (message_by (left pair) rank comm source tag p o)) (end_same pair rank o o' alike)
-    ∙ ap (by (column (right pair) q) (end_of (right pair) rank o')) (received_same pair rank comm source tag p q o o' twin own alike))
+    let by : ℕ → ℕ → Option DrawnMessage → DrawnReceive = λ f t m. record { rank = rank; from = f; to = t; is_wild = is_any source; message = m } in
+    ap (λ f. by f (bar_end (left pair) rank o) (completed_message (left pair) (posted_at p rank comm source tag) o)) (column_same pair p q twin)
+    ∙ (ap (λ t. by (column (right pair) q) t (completed_message (left pair) (posted_at p rank comm source tag) o)) (end_same pair rank o o' alike)
+    ∙ ap (by (column (right pair) q) (bar_end (right pair) rank o')) (received_same pair rank comm source tag p q o o' twin own alike))
 
 receive_same_by : (pair : Pair) (rank : ℕ) (call : Call) (p q : ℕ) (twin : Twin pair p q) → twin.rank ≡ rank → receive_by (left pair) p rank call ≡ receive_by (right pair) q rank call
 receive_same_by pair rank (Post comm Null tag room) p q twin own = refl
@@ -487,12 +488,12 @@ latest_same pair p q (Some s) (Some s') twin alike =
       | inr t ↦ (let u : (s' == q) ≡ false = sym tests ∙ t in rw (t, u) (ap (λ x. Some x) (point_same pair s s' alike)))
     ]
 
-collective_same : (pair : Pair) (rank p q : ℕ) (o o' : Option Link) → Twin pair p q → IsAlike (TwinLink pair) o o' → collective_of (left pair) p rank o ≡ collective_of (right pair) q rank o'
+collective_same : (pair : Pair) (rank p q : ℕ) (o o' : Option CompletedStart) → Twin pair p q → IsAlike (TwinLink pair) o o' → collective_of (left pair) p rank o ≡ collective_of (right pair) q rank o'
 collective_same pair rank p q None None twin alike = refl
 collective_same pair rank p q None (Some l') twin alike = absurd alike
 collective_same pair rank p q (Some l) None twin alike = absurd alike
 collective_same pair rank p q (Some l) (Some l') twin alike =
-    let by : ℕ → ℕ → Option Point → List Collective = λ f t x. record { rank = rank; from = f; to = t; latest = x } ∷ [] in
+    let by : ℕ → ℕ → Option Point → List DrawnCollective = λ f t x. record { rank = rank; from = f; to = t; latest = x } ∷ [] in
     ap (λ f. by f (column (left pair) l.at) (latest_of (left pair) p l.cause)) (column_same pair p q twin)
     ∙ (ap (λ t. by (column (right pair) q) t (latest_of (left pair) p l.cause)) (column_same pair l.at l'.at alike.at)
     ∙ ap (by (column (right pair) q) (column (right pair) l'.at)) (latest_same pair p q l.cause l'.cause twin alike.cause))
@@ -520,7 +521,7 @@ collectives_same pair p q twin =
 
 -- 8. Sends that nobody took
 
-unreceived_same : (pair : Pair) (rank dest p q : ℕ) (o o' : Option Link) → Twin pair p q → IsAlike (TwinLink pair) o o' → unreceived_of (left pair) p rank dest o ≡ unreceived_of (right pair) q rank dest o'
+unreceived_same : (pair : Pair) (rank dest p q : ℕ) (o o' : Option CompletedStart) → Twin pair p q → IsAlike (TwinLink pair) o o' → unreceived_of (left pair) p rank dest o ≡ unreceived_of (right pair) q rank dest o'
 unreceived_same pair rank dest p q None None twin alike =
     let by : ℕ → List Unreceived = λ c. record { rank = rank; column = c; receiver = dest } ∷ [] in
     ap by (column_same pair p q twin)
@@ -595,27 +596,27 @@ probes_same pair p q twin =
 
 -- 10. the drawing
 
-starts_same : {A : Type 0} (pair : Pair) (f g : ℕ → List A) → ((p q : ℕ) → Twin pair p q → f p ≡ g q) → joined (of_starts f pair.one) pair.n ≡ joined (of_starts g pair.other) pair.n
+starts_same : {A : Type 0} (pair : Pair) (f g : ℕ → List A) → ((p q : ℕ) → Twin pair p q → f p ≡ g q) → lists_below (of_starts f pair.one) pair.n ≡ lists_below (of_starts g pair.other) pair.n
 starts_same pair f g same =
     same_joined (of_starts f pair.one) (of_starts g pair.other) pair.n (λ rank.
     same_flat (Twin pair) f g same (positions (is_start_of rank) 0 pair.one) (positions (is_start_of rank) 0 pair.other)
     (all_passing (is_start_of rank) is_start rank pair.one pair.other (start_test rank) (pair.are.sides.runs.views rank)))
 
-events_same : {A : Type 0} (pair : Pair) (f g : ℕ → List A) → ((p q : ℕ) → Twin pair p q → f p ≡ g q) → joined (of_events f pair.one) pair.n ≡ joined (of_events g pair.other) pair.n
+events_same : {A : Type 0} (pair : Pair) (f g : ℕ → List A) → ((p q : ℕ) → Twin pair p q → f p ≡ g q) → lists_below (of_events f pair.one) pair.n ≡ lists_below (of_events g pair.other) pair.n
 events_same pair f g same =
     same_joined (of_events f pair.one) (of_events g pair.other) pair.n (λ rank.
-    same_flat (Twin pair) f g same (positions (is_of rank) 0 pair.one) (positions (is_of rank) 0 pair.other)
+    same_flat (Twin pair) f g same (positions (is_event_of rank) 0 pair.one) (positions (is_event_of rank) 0 pair.other)
     (own_twins pair.one pair.other rank (pair.are.sides.runs.views rank)))
 
-lanes_same : (pair : Pair) → joined (marks_of (left pair)) pair.n ≡ joined (marks_of (right pair)) pair.n
+lanes_same : (pair : Pair) → lists_below (drawn_marks (left pair)) pair.n ≡ lists_below (drawn_marks (right pair)) pair.n
 lanes_same pair =
-    same_joined (marks_of (left pair)) (marks_of (right pair)) pair.n (λ rank.
-    marks_same pair rank 0 (positions (is_of rank) 0 pair.one) (positions (is_of rank) 0 pair.other) (own_twins pair.one pair.other rank (pair.are.sides.runs.views rank)))
+    same_joined (drawn_marks (left pair)) (drawn_marks (right pair)) pair.n (λ rank.
+    marks_same pair rank 0 (positions (is_event_of rank) 0 pair.one) (positions (is_event_of rank) 0 pair.other) (own_twins pair.one pair.other rank (pair.are.sides.runs.views rank)))
 
 drawn_same : (plan : List (List ℕ)) (pair : Pair) → drawn plan (left pair) ≡ drawn plan (right pair)
 drawn_same plan pair =
-    let by : ℕ → List Mark → List Receive → List Collective → List Arrow → List Unreceived → Drawn =
-    λ c m r k a u. record { groups = groups_of plan; columns = c; marks = m; receives = r; collectives = k; probes = a; unreceived = u } in
+    let by : ℕ → List DrawnMark → List DrawnReceive → List DrawnCollective → List Arrow → List Unreceived → Drawn =
+    λ c m r k a u. record { groups = rank_groups plan; columns = c; marks = m; receives = r; collectives = k; probes = a; unreceived = u } in
     let x : Drawn = drawn plan (left pair) in
     let y : Drawn = drawn plan (right pair) in
     let columns : x.columns ≡ y.columns = columns_same pair in

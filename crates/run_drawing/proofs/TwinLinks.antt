@@ -17,11 +17,11 @@ use Rattle.run_model.proofs.Taken.{TakesAt, distinct_parts, event_there, reply_t
 use Rattle.run_model.proofs.Views.{test_cases}
 use Rattle.causes.specs.Positions.{is_start_of, start_position}
 use Rattle.causes.specs.Steps.{completed_from}
-use Rattle.msg_races.specs.Listing.{joined}
+use Rattle.msg_races.specs.Listing.{lists_below}
 use Rattle.msg_races.proofs.SortedLists.{in_back, in_front, in_parts, joined_in}
-use Rattle.run_drawing.specs.declared.links.Link.{Link}
+use Rattle.run_drawing.specs.declared.links.CompletedStart.{CompletedStart}
 use Rattle.run_drawing.specs.Depths.{AreDepths}
-use Rattle.run_drawing.specs.Links.{completion_in, deeper, deepest, link_by, links_at, links_by, links_from, links_in, with_depth}
+use Rattle.run_drawing.specs.Links.{completion_in, deeper, deepest, link_by, links_at, links_by, event_links, links_in, with_depth}
 use Rattle.run_drawing.proofs.Alike.{AreAlike, IsAlike, alike_found, alike_some}
 use Rattle.run_drawing.proofs.ArrowLemmas.{in_joined}
 use Rattle.run_drawing.proofs.Deepest.{there_known}
@@ -116,18 +116,18 @@ fronts_deep next n one other depths depths' p q sides twin t s its =
 
 -- 2. the links of a history
 
-abbrev pub links_of : ℕ → List Event → List ℕ → List Link
-links_of n events depths = joined (links_at n events depths) (length events)
+abbrev pub links_of : ℕ → List Event → List ℕ → List CompletedStart
+links_of n events depths = lists_below (links_at n events depths) (length events)
 
 -- the link that an item of the event at a position makes
-abbrev pub made_link : ℕ → List Event → List ℕ → ℕ → ℕ → ℕ → Item → ℕ → Link
+abbrev pub made_link : ℕ → List Event → List ℕ → ℕ → ℕ → ℕ → Item → ℕ → CompletedStart
 made_link n events depths at rank number item start = record {
   start = start;
   at = length (take at events);
   cause = deepest (take at depths) (completed_from n (take at events) rank number item.got);
 }
 
-pub record IsLink (n : ℕ) (events : List Event) (depths : List ℕ) (link : Link) : Type 0 where
+pub record IsLink (n : ℕ) (events : List Event) (depths : List ℕ) (link : CompletedStart) : Type 0 where
   pub at : ℕ
   pub event : Event
   pub items : List Item
@@ -138,24 +138,24 @@ pub record IsLink (n : ℕ) (events : List Event) (depths : List ℕ) (link : Li
   pub start : start_position (take at events) event.rank (slice_index (listed_by event.call) item.index) ≡ Some link.start
   pub is : link ≡ made_link n events depths at event.rank (slice_index (listed_by event.call) item.index) item link.start
 
-one_link : (o : Option ℕ) (at : ℕ) (cause : Option ℕ) (link : Link) → IsIn link (link_by o at cause) → (o ≡ Some link.start) × (link ≡ record { start = link.start; at = at; cause = cause })
+one_link : (o : Option ℕ) (at : ℕ) (cause : Option ℕ) (link : CompletedStart) → IsIn link (link_by o at cause) → (o ≡ Some link.start) × (link ≡ record { start = link.start; at = at; cause = cause })
 one_link None at cause link h = absurd h
 one_link (Some start) at cause link h = elim h [
   | inl e ↦ (
-      let by : ℕ → Link = λ s. record { start = s; at = at; cause = cause } in
-      let starts : start ≡ link.start = ap (λ (l : Link). l.start) e in
+      let by : ℕ → CompletedStart = λ s. record { start = s; at = at; cause = cause } in
+      let starts : start ≡ link.start = ap (λ (l : CompletedStart). l.start) e in
       (ap (λ s. Some s) starts, sym e ∙ ap by starts))
   | inr never ↦ absurd never
 ]
 
 -- what one item gives
-record IsItemLink (n : ℕ) (depths : List ℕ) (before : List Event) (me : ℕ) (starts : List ℕ) (items : List Item) (link : Link) : Type 0 where
+record IsItemLink (n : ℕ) (depths : List ℕ) (before : List Event) (me : ℕ) (starts : List ℕ) (items : List Item) (link : CompletedStart) : Type 0 where
   item : Item
   among : IsIn item items
   start : start_position before me (slice_index starts item.index) ≡ Some link.start
   is : link ≡ record { start = link.start; at = length before; cause = deepest depths (completed_from n before me (slice_index starts item.index) item.got) }
 
-item_link : (n : ℕ) (depths : List ℕ) (before : List Event) (me : ℕ) (starts : List ℕ) (items : List Item) (link : Link) → IsIn link (links_in n depths before me starts items)
+item_link : (n : ℕ) (depths : List ℕ) (before : List Event) (me : ℕ) (starts : List ℕ) (items : List Item) (link : CompletedStart) → IsIn link (links_in n depths before me starts items)
     → IsItemLink n depths before me starts items link
 item_link n depths before me starts [] link h = absurd h
 item_link n depths before me starts (item ∷ items) link h =
@@ -166,7 +166,7 @@ item_link n depths before me starts (item ∷ items) link h =
       | inr r ↦ (let rest = item_link n depths before me starts items link r in record { item = rest.item; among = inr rest.among; start = rest.start; is = rest.is })
     ]
 
-reply_link : (n : ℕ) (depths : List ℕ) (before : List Event) (me : ℕ) (call : Call) (reply : Reply) (link : Link) → IsIn link (links_by n depths before me call reply)
+reply_link : (n : ℕ) (depths : List ℕ) (before : List Event) (me : ℕ) (call : Call) (reply : Reply) (link : CompletedStart) → IsIn link (links_by n depths before me call reply)
     → (items : List Item) × (reply ≡ Took items) × IsItemLink n depths before me (listed_by call) items link
 reply_link n depths before me call (Took items) link h = (items, refl, item_link n depths before me (listed_by call) items link h)
 reply_link n depths before me call Done link h = absurd h
@@ -174,12 +174,12 @@ reply_link n depths before me call NotYet link h = absurd h
 reply_link n depths before me call (Peeked source start tag count) link h = absurd h
 reply_link n depths before me call (Stopped halt) link h = absurd h
 
-event_link : (n : ℕ) (depths : List ℕ) (before : List Event) (o : Option Event) (link : Link) → IsIn link (links_from n depths before o)
+event_link : (n : ℕ) (depths : List ℕ) (before : List Event) (o : Option Event) (link : CompletedStart) → IsIn link (event_links n depths before o)
     → (event : Event) × (o ≡ Some event) × IsIn link (links_by n depths before event.rank event.call event.reply)
 event_link n depths before None link h = absurd h
 event_link n depths before (Some event) link h = (event, refl, h)
 
-pub link_found : (n : ℕ) (events : List Event) (depths : List ℕ) (link : Link) → IsIn link (links_of n events depths) → IsLink n events depths link
+pub link_found : (n : ℕ) (events : List Event) (depths : List ℕ) (link : CompletedStart) → IsIn link (links_of n events depths) → IsLink n events depths link
 link_found n events depths link h =
     let found = in_joined (links_at n events depths) (length events) link h in
     let by_event = event_link n (take found.0 depths) (take found.0 events) (slice_get events found.0) link found.1 in
@@ -203,10 +203,10 @@ item_makes : (n : ℕ) (depths : List ℕ) (before : List Event) (me : ℕ) (sta
     → IsIn (record { start = start; at = length before; cause = deepest depths (completed_from n before me (slice_index starts item.index) item.got) }) (links_in n depths before me starts items)
 item_makes n depths before me starts [] item start h there = absurd h
 item_makes n depths before me starts (x ∷ items) item start h there =
-    let made : Item → Link = λ i. record { start = start; at = length before; cause = deepest depths (completed_from n before me (slice_index starts i.index) i.got) } in
+    let made : Item → CompletedStart = λ i. record { start = start; at = length before; cause = deepest depths (completed_from n before me (slice_index starts i.index) i.got) } in
     let cause : Option ℕ = deepest depths (completed_from n before me (slice_index starts x.index) x.got) in
-    let first : List Link = link_by (start_position before me (slice_index starts x.index)) (length before) cause in
-    let rest : List Link = links_in n depths before me starts items in
+    let first : List CompletedStart = link_by (start_position before me (slice_index starts x.index)) (length before) cause in
+    let rest : List CompletedStart = links_in n depths before me starts items in
     elim h [
       | inl e ↦ (
           let S : Item → Type 0 = λ i. start_position before me (slice_index starts i.index) ≡ Some start in
@@ -221,15 +221,15 @@ pub link_made : (n : ℕ) (events : List Event) (depths : List ℕ) (at : ℕ) (
     → IsIn item items → start_position (take at events) event.rank (slice_index (listed_by event.call) item.index) ≡ Some start
     → IsIn (made_link n events depths at event.rank (slice_index (listed_by event.call) item.index) item start) (links_of n events depths)
 link_made n events depths at event items item start there took among here =
-    let link : Link = made_link n events depths at event.rank (slice_index (listed_by event.call) item.index) item start in
+    let link : CompletedStart = made_link n events depths at event.rank (slice_index (listed_by event.call) item.index) item start in
     let R : Reply → Type 0 = λ r. IsIn link (links_by n (take at depths) (take at events) event.rank event.call r) in
     let by_reply = subst R (sym took) (item_makes n (take at depths) (take at events) event.rank (listed_by event.call) items item start among here) in
-    let E : Option Event → Type 0 = λ o. IsIn link (links_from n (take at depths) (take at events) o) in
+    let E : Option Event → Type 0 = λ o. IsIn link (event_links n (take at depths) (take at events) o) in
     joined_in (links_at n events depths) (length events) at link (slice_get-below events at event there) (subst E (sym there) by_reply)
 
 -- 3. twin links
 
-pub record IsTwinLink (one other : List Event) (link link' : Link) : Type 0 where
+pub record IsTwinLink (one other : List Event) (link link' : CompletedStart) : Type 0 where
   pub start : IsTwin one other link.start link'.start
   pub at : IsTwin one other link.at link'.at
   pub cause : IsAlike (IsTwin one other) link.cause link'.cause
@@ -244,12 +244,12 @@ pub cut_at : (events : List Event) (at : ℕ) (event : Event) → slice_get even
 cut_at events at event there = (let low = slice_get-below events at event there in length-take-le at events (omega (arith, low)))
 
 -- a link has a twin
-pub record HasTwinLink (n : ℕ) (one other : List Event) (depths' : List ℕ) (link : Link) : Type 0 where
-  pub link' : Link
+pub record HasTwinLink (n : ℕ) (one other : List Event) (depths' : List ℕ) (link : CompletedStart) : Type 0 where
+  pub link' : CompletedStart
   pub among : IsIn link' (links_of n other depths')
   pub twin : IsTwinLink one other link link'
 
-pub link_over : (next : Next) (n : ℕ) (one other : List Event) (depths depths' : List ℕ) (link : Link) → AreTwinSides next n one other depths depths' → IsIn link (links_of n one depths)
+pub link_over : (next : Next) (n : ℕ) (one other : List Event) (depths depths' : List ℕ) (link : CompletedStart) → AreTwinSides next n one other depths depths' → IsIn link (links_of n one depths)
     → HasTwinLink n one other depths' link
 link_over next n one other depths depths' link sides h =
     let made = link_found n one depths link h in
@@ -272,7 +272,7 @@ link_over next n one other depths depths' link sides h =
     let causes = longer_alike one other p q (deepest (take p depths) (completed_from n (take p one) me number made.item.got)) (deepest (take q depths') (completed_from n (take q other) me number made.item.got))
     (deepest_twins (IsTwin (take p one) (take q other)) (take p depths) (take q depths') (completed_from n (take p one) me number made.item.got) (completed_from n (take q other) me number made.item.got)
     (fronts_deep next n one other depths depths' p q sides twin) items) in
-    let link_too : Link = made_link n other depths' q me number made.item other_start.0 in
+    let link_too : CompletedStart = made_link n other depths' q me number made.item other_start.0 in
     let T : ℕ → Type 0 = λ r. start_position (take q other) r (slice_index (listed_by is.said.twin.call) made.item.index) ≡ Some other_start.0 in
     let C : Call → Type 0 = λ c. start_position (take q other) me (slice_index (listed_by c) made.item.index) ≡ Some other_start.0 in
     let its_start = subst T (sym is.said.rank_is) (subst C (sym is.said.call_is) other_start.1) in
@@ -282,7 +282,7 @@ link_over next n one other depths depths' link sides h =
     let among : IsIn link_too (links_of n other depths') = subst E is.said.call_is (subst D is.said.rank_is its) in
     let L : Event → Type 0 = λ e. link ≡ made_link n one depths p e.rank (slice_index (listed_by e.call) made.item.index) made.item link.start in
     let link_is : link ≡ made_link n one depths p me number made.item link.start = subst L same made.is in
-    let at : link.at ≡ p = ap (λ (l : Link). l.at) link_is ∙ cut_at one p event made.there in
+    let at : link.at ≡ p = ap (λ (l : CompletedStart). l.at) link_is ∙ cut_at one p event made.there in
     let at_too : length (take q other) ≡ q = cut_at other q is.said.twin is.said.twin_there in
     let A : ℕ → Type 0 = λ k. IsTwin one other k q in
     let B : ℕ → Type 0 = λ k. IsTwin one other link.at k in
@@ -293,7 +293,7 @@ link_over next n one other depths depths' link sides h =
       twin = record {
         start = longer_twins one other p q link.start other_start.0 other_start.2;
         at = subst B (sym at_too) (subst A (sym at) twin);
-        cause = subst K (sym (ap (λ (l : Link). l.cause) link_is)) causes;
+        cause = subst K (sym (ap (λ (l : CompletedStart). l.cause) link_is)) causes;
       };
     }
 
@@ -323,13 +323,13 @@ one_item starts (first ∷ items) a b distinct at_a at_b same =
       ]
     ]
 
-link_takes : (n : ℕ) (events : List Event) (depths : List ℕ) (link : Link) (made : IsLink n events depths link)
+link_takes : (n : ℕ) (events : List Event) (depths : List ℕ) (link : CompletedStart) (made : IsLink n events depths link)
     → TakesAt events made.event.rank (slice_index (listed_by made.event.call) made.item.index) made.at
 link_takes n events depths link made =
     record { event = made.event; there = made.there; own = refl; items = made.items; reply = made.took; takes = item_taken (listed_by made.event.call) made.items made.item made.among }
 
 -- links of one start's name are one
-pub one_of_name : (next : Next) (n : ℕ) (events : List Event) (depths : List ℕ) (one other : Link) (a : IsLink n events depths one) (b : IsLink n events depths other) → IsRun next n events
+pub one_of_name : (next : Next) (n : ℕ) (events : List Event) (depths : List ℕ) (one other : CompletedStart) (a : IsLink n events depths one) (b : IsLink n events depths other) → IsRun next n events
     → a.event.rank ≡ b.event.rank → slice_index (listed_by a.event.call) a.item.index ≡ slice_index (listed_by b.event.call) b.item.index → one ≡ other
 one_of_name next n events depths one other a b run ranks numbers =
     let rank : ℕ = b.event.rank in
@@ -352,7 +352,7 @@ one_of_name next n events depths one other a b run ranks numbers =
     let here : start_position (take b.at events) rank number ≡ Some one.start = subst S at (subst R ranks (subst N numbers a.start)) in
     let starts_both : Some one.start ≡ Some other.start = sym here ∙ b.start in
     let start : one.start ≡ other.start = cc in
-    let by : ℕ → ℕ → ℕ → Item → ℕ → Link = λ at r k i s. made_link n events depths at r k i s in
+    let by : ℕ → ℕ → ℕ → Item → ℕ → CompletedStart = λ at r k i s. made_link n events depths at r k i s in
     a.is
     ∙ (ap (λ at. by at a.event.rank (slice_index (listed_by a.event.call) a.item.index) a.item one.start) at
     ∙ (ap (λ r. by b.at r (slice_index (listed_by a.event.call) a.item.index) a.item one.start) ranks
@@ -361,7 +361,7 @@ one_of_name next n events depths one other a b run ranks numbers =
     ∙ (ap (by b.at rank number b.item) start ∙ sym b.is)))))
 
 -- the name of a link's start
-link_named : (n : ℕ) (events : List Event) (depths : List ℕ) (link : Link) (made : IsLink n events depths link)
+link_named : (n : ℕ) (events : List Event) (depths : List ℕ) (link : CompletedStart) (made : IsLink n events depths link)
     → name_at events link.start ≡ Some (made.event.rank, slice_index (listed_by made.event.call) made.item.index)
 link_named n events depths link made =
     let number : ℕ = slice_index (listed_by made.event.call) made.item.index in
@@ -370,7 +370,7 @@ link_named n events depths link made =
 pub same_parts : (a b : Name) → Some a ≡ Some b → (a.0 ≡ b.0) × (a.1 ≡ b.1)
 same_parts a b h = (let same : a ≡ b = cc in (ap (λ (n : Name). n.0) same, ap (λ (n : Name). n.1) same))
 
-pub one_link_of : (next : Next) (n : ℕ) (events : List Event) (depths : List ℕ) (one other : Link) → IsRun next n events → IsIn one (links_of n events depths) → IsIn other (links_of n events depths)
+pub one_link_of : (next : Next) (n : ℕ) (events : List Event) (depths : List ℕ) (one other : CompletedStart) → IsRun next n events → IsIn one (links_of n events depths) → IsIn other (links_of n events depths)
     → one.start ≡ other.start → one ≡ other
 one_link_of next n events depths one other run first second same =
     let a = link_found n events depths one first in
@@ -382,7 +382,7 @@ one_link_of next n events depths one other run first second same =
 pub completion_twins : (next : Next) (n : ℕ) (one other : List Event) (depths depths' : List ℕ) (p q : ℕ) → AreTwinSides next n one other depths depths' → IsTwin one other p q
     → IsAlike (IsTwinLink one other) (completion_in (links_of n one depths) p) (completion_in (links_of n other depths') q)
 completion_twins next n one other depths depths' p q sides twin =
-    alike_found (IsTwinLink one other) (λ (link : Link). link.start == p) (λ (link : Link). link.start == q) (links_of n one depths) (links_of n other depths')
+    alike_found (IsTwinLink one other) (λ (link : CompletedStart). link.start == p) (λ (link : CompletedStart). link.start == q) (links_of n one depths) (links_of n other depths')
     (completion_in (links_of n one depths) p) (completion_in (links_of n other depths') q)
     (λ link among passes. (
     let over = link_over next n one other depths depths' link sides among in

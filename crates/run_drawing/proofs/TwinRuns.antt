@@ -21,10 +21,10 @@ use Rattle.run_model.proofs.StartLemmas.{slice_get-append, slice_get-below, star
 use Rattle.run_model.proofs.Taken.{event_there}
 use Rattle.run_model.proofs.Views.{option_cases, test_cases, view_of-append}
 use Rattle.picked_runs.proofs.Grown.{pairs_from-append}
-use Rattle.causes.specs.Before.{IsBefore, IsDirectlyBefore, IsOwn, IsStep}
+use Rattle.causes.specs.Before.{IsBefore, IsDirectlyBefore, IsEventOfRank, PrecedesDirectly}
 use Rattle.causes.specs.Before.IsBefore.{path, step}
 use Rattle.causes.specs.Positions.{is_start_of, start_position}
-use Rattle.causes.specs.Steps.{completed_from, given_at, given_by, given_from, rests_on, taken_from}
+use Rattle.causes.specs.Steps.{completed_from, given_at, given_by, given_from, rests_on, given_by_items}
 use Rattle.causes.proofs.NewClocks.{own_step}
 use Rattle.causes.proofs.Paths.{step-less}
 use Rattle.causes.proofs.PositionLemmas.{count_below-positions}
@@ -65,7 +65,7 @@ turned_runs next n one other runs =
           })));
     }
 
--- a view is its beginning and the rest
+-- a view is its prefix and the rest
 view_parts : (events : List Event) (k rank : ℕ) → view_of (take k events) rank ++ view_of (drop k events) rank ≡ view_of events rank
 view_parts events k rank = sym (view_of-append (take k events) (drop k events) rank) ∙ ap (λ l. view_of l rank) (take-append-drop k events)
 
@@ -250,11 +250,11 @@ item_twins next n one other p q runs is items item took among =
 taken_twins : (n : ℕ) (one other : List Event) (me : ℕ) (starts : List ℕ) (items : List Item)
     → ((item : Item) → IsIn item items
     → AreAlike (IsTwin one other) (completed_from n one me (slice_index starts item.index) item.got) (completed_from n other me (slice_index starts item.index) item.got))
-    → AreAlike (IsTwin one other) (taken_from n one me starts items) (taken_from n other me starts items)
+    → AreAlike (IsTwin one other) (given_by_items n one me starts items) (given_by_items n other me starts items)
 taken_twins n one other me starts [] each = tt
 taken_twins n one other me starts (item ∷ items) each =
-    alike_append (IsTwin one other) (completed_from n one me (slice_index starts item.index) item.got) (taken_from n one me starts items)
-    (completed_from n other me (slice_index starts item.index) item.got) (taken_from n other me starts items)
+    alike_append (IsTwin one other) (completed_from n one me (slice_index starts item.index) item.got) (given_by_items n one me starts items)
+    (completed_from n other me (slice_index starts item.index) item.got) (given_by_items n other me starts items)
     (each item (inl refl)) (taken_twins n one other me starts items (λ x h. each x (inr h)))
 
 reply_twins : (next : Next) (n : ℕ) (one other : List Event) (p q : ℕ) (reply : Reply) (runs : AreTwinRuns next n one other) (is : IsMoment next n one other p q) → is.said.event.reply ≡ reply
@@ -292,10 +292,10 @@ rests_twins next n one other p q runs is =
 pub record IsStepToo (n : ℕ) (one other : List Event) (t q : ℕ) : Type 0 where
   pub at : ℕ
   pub twin : IsTwin one other t at
-  pub step : IsStep n other at q
+  pub step : PrecedesDirectly n other at q
 
 own_step_too : (next : Next) (n : ℕ) (one other : List Event) (t p q : ℕ) (event : Event) → AreTwinRuns next n one other → IsTwin one other p q
-    → slice_get one p ≡ Some event → IsOwn (take p one) event.rank t → t < p → IsStepToo n one other t q
+    → slice_get one p ≡ Some event → IsEventOfRank (take p one) event.rank t → t < p → IsStepToo n one other t q
 own_step_too next n one other t p q event runs twin there own less =
     let early : slice_get one t ≡ Some own.earlier = get_taken one p t own.earlier own.at in
     let found = twin_there one other t own.earlier (runs.views own.earlier.rank) early in
@@ -319,7 +319,7 @@ own_step_too next n one other t p q event runs twin there own less =
       step = own_step n other twin.rank s q (record { earlier = far.event; at = far.there; own = far.own ∙ ranks }) (record { earlier = far_too.event; at = far_too.there; own = far_too.own }) low;
     }
 
-pub step_over : (next : Next) (n : ℕ) (one other : List Event) (t p q : ℕ) → AreTwinRuns next n one other → IsTwin one other p q → IsStep n one t p → IsStepToo n one other t q
+pub step_over : (next : Next) (n : ℕ) (one other : List Event) (t p q : ℕ) → AreTwinRuns next n one other → IsTwin one other p q → PrecedesDirectly n one t p → IsStepToo n one other t q
 step_over next n one other t p q runs twin made =
     let is = moment next n one other p q runs twin in
     let both : Some made.event ≡ Some is.said.event = sym made.at ∙ is.said.there in
@@ -364,7 +364,7 @@ pub before_over : (next : Next) (n : ℕ) (one other : List Event) (t s p q : �
 before_over next n one other t s p q runs twin twin' (step _ _ is) =
     let too = step_over next n one other t p q runs twin' is in
     let same : too.at ≡ s = one_twin one other t too.at t s too.twin twin refl in
-    let P : ℕ → Type 0 = λ k. IsStep n other k q in
+    let P : ℕ → Type 0 = λ k. PrecedesDirectly n other k q in
     step s q (subst P same too.step)
 before_over next n one other t s p q runs twin twin' (path _ u _ first is) =
     let too = step_over next n one other u p q runs twin' is in

@@ -8,7 +8,7 @@ use Rattle.run_model.specs.Pairs.{Name, name_at}
 use Rattle.run_model.specs.Views.{View, is_start, start_at, starts_of, view_of}
 use Rattle.run_model.proofs.StartLemmas.{slice_get-below}
 use Rattle.run_model.proofs.Views.{test_cases}
-use Rattle.causes.specs.Positions.{is_enter_of, is_of, is_start_of, positions, start_position}
+use Rattle.causes.specs.Positions.{is_enter_of, is_event_of, is_start_of, positions, start_position}
 use Rattle.causes.proofs.Deciding.{below_some}
 use Rattle.causes.proofs.PositionLemmas.{in-placed}
 use Rattle.msg_races.proofs.StartNames.{AreNumbered, start_of_name, starts_numbered}
@@ -26,7 +26,7 @@ abbrev pub IsTestOf : (Event → Bool) → (Call × Reply → Bool) → ℕ → 
 IsTestOf test passes rank = (event : Event) → test event ≡ (passes (event.call, event.reply) && (event.rank == rank))
 
 pub positions_chosen : (test : Event → Bool) (passes : Call × Reply → Bool) (rank at : ℕ) (events : List Event) → IsTestOf test passes rank
-    → positions test at events ≡ chosen passes (view_of events rank) (positions (is_of rank) at events)
+    → positions test at events ≡ chosen passes (view_of events rank) (positions (is_event_of rank) at events)
 positions_chosen test passes rank at [] is = refl
 positions_chosen test passes rank at (x ∷ xs) is =
     let rest = positions_chosen test passes rank (at + 1) xs is in
@@ -81,7 +81,7 @@ pub passing_twins : (test : Event → Bool) (passes : Call × Reply → Bool) (r
     → AgreeOn (view_of one rank) (view_of other rank) → slice_get (positions test 0 one) k ≡ Some p → slice_get (positions test 0 other) k ≡ Some q → IsTwin one other p q
 passing_twins test passes rank one other k p q is agree h h' =
     let P : ℕ → List ℕ → Type 0 = λ x l. slice_get l k ≡ Some x in
-    let found = same_chosen passes (view_of one rank) (view_of other rank) (positions (is_of rank) 0 one) (positions (is_of rank) 0 other) k p q agree
+    let found = same_chosen passes (view_of one rank) (view_of other rank) (positions (is_event_of rank) 0 one) (positions (is_event_of rank) 0 other) k p q agree
     (subst (P p) (positions_chosen test passes rank 0 one is) h) (subst (P q) (positions_chosen test passes rank 0 other is) h') in
     record { rank = rank; number = found.number; first = found.first; second = found.second }
 
@@ -99,8 +99,8 @@ chosen_alike passes Like (seen ∷ view) (x ∷ places) (y ∷ places') are = el
 pub all_passing : (test : Event → Bool) (passes : Call × Reply → Bool) (rank : ℕ) (one other : List Event) → IsTestOf test passes rank
     → view_of one rank ≡ view_of other rank → AreAlike (IsTwin one other) (positions test 0 one) (positions test 0 other)
 all_passing test passes rank one other is same =
-    let places : List ℕ = positions (is_of rank) 0 one in
-    let places' : List ℕ = positions (is_of rank) 0 other in
+    let places : List ℕ = positions (is_event_of rank) 0 one in
+    let places' : List ℕ = positions (is_event_of rank) 0 other in
     let alike = chosen_alike passes (IsTwin one other) (view_of one rank) places places' (own_twins one other rank same) in
     let V : View → Type 0 = λ v. AreAlike (IsTwin one other) (chosen passes (view_of one rank) places) (chosen passes v places') in
     let P : List ℕ → Type 0 = λ l. AreAlike (IsTwin one other) l (chosen passes (view_of other rank) places') in

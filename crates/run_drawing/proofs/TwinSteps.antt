@@ -1,5 +1,6 @@
 -- In two runs with the same views and the same mates twins rest on twins, and have one depth.
 use Rattle.std.proofs.Common.{◌≡◌, ◌++◌, ◌∷◌, [], ℕ, Bool, List, Option, Some, true, false, inl, inr, refl, ap, sym, ◌∙◌, arith, drop, length, subst, take, take_all}
+use Rattle.std.specs.Option.{option_to_list}
 use Rattle.std.proofs.lemmas.List.{take-append-drop, take-append-le}
 use Rattle.mpi_call.specs.declared.call.Call.{Call}
 use Rattle.mpi_call.specs.declared.call.Call.TheVariants.{Abort, End, Enter, Peek, Post, Send, Take, Trap}
@@ -8,14 +9,14 @@ use Rattle.mpi_call.specs.declared.reply.Got.TheVariants.{Joined, Made, Message 
 use Rattle.mpi_call.specs.Lists.{IsIn}
 use Rattle.mpi_call.specs.Needs.{needs}
 use Rattle.run_model.specs.declared.event.Event.{Event}
-use Rattle.run_model.specs.Communicators.{Entered, count_on, enter_at, instance_of, known_first, members_in}
+use Rattle.run_model.specs.Communicators.{Entered, count_on, enter_at, instance_of, known_first, members_for_rank}
 use Rattle.run_model.specs.Pairs.{Name, pairs_of, partner_of}
 use Rattle.run_model.specs.Views.{View, is_start, start_at, starts_of, view_of}
 use Rattle.run_model.proofs.Enters.{entered_from-count}
 use Rattle.run_model.proofs.StartLemmas.{slice_get-below, starts_of-append}
 use Rattle.run_model.proofs.Views.{test_cases, view_of-append}
-use Rattle.causes.specs.Positions.{enter_position, instance_at, is_enter_of, is_start_of, listed, mates_of, positions, start_position}
-use Rattle.causes.specs.Steps.{collected_from, entered_by, given_from, received_at}
+use Rattle.causes.specs.Positions.{enter_position, enter_instance_at, is_enter_of, is_start_of, mates_of, positions, start_position}
+use Rattle.causes.specs.Steps.{collected_from, needed_enters, given_from, received_at}
 use Rattle.causes.proofs.Deciding.{below_some}
 use Rattle.causes.proofs.PositionLemmas.{count_below-positions}
 use Rattle.msg_races.proofs.StartNames.{start_of_name}
@@ -36,7 +37,7 @@ pub record AreFronts (one other : List Event) (me : ℕ) : Type 0 where
   pub mates_too : HasMates other
 
 -- the instance of an Enter is counted in the view
-instance_is : (events : List Event) (me number comm at : ℕ) → start_position events me number ≡ Some at → instance_at events me comm at ≡ instance_of (view_of events me) number comm
+instance_is : (events : List Event) (me number comm at : ℕ) → start_position events me number ≡ Some at → enter_instance_at events me comm at ≡ instance_of (view_of events me) number comm
 instance_is events me number comm at there =
     let front : List Event = take at events in
     let rest : List Event = drop at events in
@@ -66,7 +67,7 @@ AreThere events comm instance needed members = (m : ℕ) → IsIn m members → 
 
 entered_twins : (one other : List Event) (comm instance : ℕ) (needed : ℕ → Bool) (members : List ℕ) → HaveOneFuture one other
     → AreThere one comm instance needed members → AreThere other comm instance needed members
-    → AreAlike (IsTwin one other) (entered_by one comm instance needed members) (entered_by other comm instance needed members)
+    → AreAlike (IsTwin one other) (needed_enters one comm instance needed members) (needed_enters other comm instance needed members)
 entered_twins one other comm instance needed [] agree first second = tt
 entered_twins one other comm instance needed (m ∷ members) agree first second =
     let rest = entered_twins one other comm instance needed members agree (λ x h need. first x (inr h) need) (λ x h need. second x (inr h) need) in
@@ -87,21 +88,21 @@ collected_twins n one other me number p q got (Enter comm kind root op count int
     let V : View = view_of one me in
     let W : View = view_of other me in
     let instance : ℕ = instance_of V number comm in
-    let first : instance_at one me comm p ≡ instance = instance_is one me number comm p here in
-    let second : instance_at other me comm q ≡ instance = instance_is other me number comm q there ∙ ap (λ v. instance_of v number comm) (sym fronts.own) in
+    let first : enter_instance_at one me comm p ≡ instance = instance_is one me number comm p here in
+    let second : enter_instance_at other me comm q ≡ instance = instance_is other me number comm q there ∙ ap (λ v. instance_of v number comm) (sym fronts.own) in
     let start_too : start_at W number ≡ Some enter = ap (λ v. start_at v number) (sym fronts.own) ∙ start in
-    let by : View → ℕ → List Event → List ℕ = λ v i l. entered_by l comm i (needs enter (members_in n v comm) me) (members_in n v comm) in
-    let in_one : AreThere one comm instance (needs enter (members_in n V comm) me) (members_in n V comm) = λ m h need. (
+    let by : View → ℕ → List Event → List ℕ = λ v i l. needed_enters l comm i (needs enter (members_for_rank n v comm) me) (members_for_rank n v comm) in
+    let in_one : AreThere one comm instance (needs enter (members_for_rank n V comm) me) (members_for_rank n V comm) = λ m h need. (
     let found = needed_entered n one me number got comm kind root op count ints m is start h need in
     enter_there n one m comm instance found.0 found.1) in
-    let in_other : AreThere other comm (instance_of W number comm) (needs enter (members_in n W comm) me) (members_in n W comm) = λ m h need. (
+    let in_other : AreThere other comm (instance_of W number comm) (needs enter (members_for_rank n W comm) me) (members_for_rank n W comm) = λ m h need. (
     let found = needed_entered n other me number got comm kind root op count ints m too start_too h need in
     enter_there n other m comm (instance_of W number comm) found.0 found.1) in
-    let T : View → Type 0 = λ v. AreThere other comm (instance_of v number comm) (needs enter (members_in n v comm) me) (members_in n v comm) in
-    let twins = entered_twins one other comm instance (needs enter (members_in n V comm) me) (members_in n V comm) fronts.agree in_one (subst T (sym fronts.own) in_other) in
+    let T : View → Type 0 = λ v. AreThere other comm (instance_of v number comm) (needs enter (members_for_rank n v comm) me) (members_for_rank n v comm) in
+    let twins = entered_twins one other comm instance (needs enter (members_for_rank n V comm) me) (members_for_rank n V comm) fronts.agree in_one (subst T (sym fronts.own) in_other) in
     let A : ℕ → Type 0 = λ i. AreAlike (IsTwin one other) (by V i one) (by V instance other) in
-    let B : ℕ → Type 0 = λ i. AreAlike (IsTwin one other) (by V (instance_at one me comm p) one) (by V i other) in
-    let C : View → Type 0 = λ v. AreAlike (IsTwin one other) (by V (instance_at one me comm p) one) (by v (instance_at other me comm q) other) in
+    let B : ℕ → Type 0 = λ i. AreAlike (IsTwin one other) (by V (enter_instance_at one me comm p) one) (by V i other) in
+    let C : View → Type 0 = λ v. AreAlike (IsTwin one other) (by V (enter_instance_at one me comm p) one) (by v (enter_instance_at other me comm q) other) in
     subst C fronts.own (subst B (sym second) (subst A (sym first) twins))
 collected_twins n one other me number p q got (Send comm dest tag ints sync) fronts is too here there start = tt
 collected_twins n one other me number p q got (Post comm source tag room) fronts is too here there start = tt
@@ -144,7 +145,7 @@ received_twins n one other me number p q got End fronts partners is too here the
 
 -- a start that both have
 pub sent_twins : (one other : List Event) (source number : ℕ) (call call' : Call) → HaveOneFuture one other → start_at (view_of one source) number ≡ Some call → start_at (view_of other source) number ≡ Some call'
-    → AreAlike (IsTwin one other) (listed (start_position one source number)) (listed (start_position other source number))
+    → AreAlike (IsTwin one other) (option_to_list (start_position one source number)) (option_to_list (start_position other source number))
 sent_twins one other source number call call' agree here there =
     let p = start_there one source number call here in
     let q = start_there other source number call' there in

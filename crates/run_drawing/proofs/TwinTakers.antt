@@ -10,17 +10,17 @@ use Rattle.mpi_call.specs.Calls.{listed_by}
 use Rattle.mpi_call.specs.Lists.{IsIn}
 use Rattle.mpi_call.specs.Needs.{needs}
 use Rattle.run_model.specs.declared.event.Event.{Event}
-use Rattle.run_model.specs.Communicators.{is_on, members_in}
+use Rattle.run_model.specs.Communicators.{is_on, members_for_rank}
 use Rattle.run_model.specs.Pairs.{Name, name_at, named, pairs_of, partner_of, post_accepts}
 use Rattle.run_model.specs.Run.{IsRun}
 use Rattle.run_model.specs.Views.{Next, is_start, start_at, view_of}
 use Rattle.run_model.proofs.Taken.{event_there}
 use Rattle.run_model.proofs.Views.{test_cases}
-use Rattle.causes.specs.Positions.{enter_position, instance_at, is_enter_of, is_start_of, is_there, mates_of, positions, start_position}
-use Rattle.causes.specs.Steps.{collected_from, completed_from, entered_by, entered_one, given_at, given_by, given_from, received_at}
+use Rattle.causes.specs.Positions.{enter_position, enter_instance_at, is_enter_of, is_start_of, is_at_position, mates_of, positions, start_position}
+use Rattle.causes.specs.Steps.{collected_from, completed_from, needed_enters, entered_one, given_at, given_by, given_from, received_at}
 use Rattle.causes.proofs.PositionLemmas.{placed-in}
 use Rattle.msg_races.proofs.SortedLists.{in_parts}
-use Rattle.run_drawing.specs.declared.links.Link.{Link}
+use Rattle.run_drawing.specs.declared.links.CompletedStart.{CompletedStart}
 use Rattle.run_drawing.specs.Depths.{AreDepths}
 use Rattle.run_drawing.specs.Links.{deepest, taker_in}
 use Rattle.run_drawing.proofs.Alike.{IsAlike, alike_found, alike_some}
@@ -74,10 +74,10 @@ not_entered before m comm instance s send there is h =
     no_enter comm send.call is (ap (λ (e : Event). is_on comm e.call) (sym same) ∙ on.0)
 
 none_entered : (before : List Event) (comm instance : ℕ) (needed : ℕ → Bool) (members : List ℕ) (s : ℕ) (send : Event) → slice_get before s ≡ Some send → IsSending send.call
-    → IsIn s (entered_by before comm instance needed members) → ⊥
+    → IsIn s (needed_enters before comm instance needed members) → ⊥
 none_entered before comm instance needed [] s send there is h = h
 none_entered before comm instance needed (m ∷ members) s send there is h =
-    elim (in_parts s (entered_one before comm instance needed m) (entered_by before comm instance needed members) h) [
+    elim (in_parts s (entered_one before comm instance needed m) (needed_enters before comm instance needed members) h) [
       | inl l ↦ elim (test_cases (needed m)) [
         | inl t ↦ not_entered before m comm instance s send there is (listed_is (enter_position before m comm instance) s (rw t at l))
         | inr t ↦ (let none : IsIn s [] = rw t at l in none)
@@ -87,7 +87,7 @@ none_entered before comm instance needed (m ∷ members) s send there is h =
 
 none_collected : (n : ℕ) (before : List Event) (me at : ℕ) (call : Call) (s : ℕ) (send : Event) → slice_get before s ≡ Some send → IsSending send.call → IsIn s (collected_from n before me at call) → ⊥
 none_collected n before me at (Enter comm kind root op count ints) s send there is h =
-    none_entered before comm (instance_at before me comm at) (needs (Enter comm kind root op count ints) (members_in n (view_of before me) comm) me) (members_in n (view_of before me) comm) s send there is h
+    none_entered before comm (enter_instance_at before me comm at) (needs (Enter comm kind root op count ints) (members_for_rank n (view_of before me) comm) me) (members_for_rank n (view_of before me) comm) s send there is h
 none_collected n before me at (Send comm dest tag ints sync) s send there is h = h
 none_collected n before me at (Post comm source tag room) s send there is h = h
 none_collected n before me at (Take starts mode) s send there is h = h
@@ -99,7 +99,7 @@ none_collected n before me at End s send there is h = h
 -- two Sends are no pair
 not_both : (events : List Event) (a b : Name) (one other : Call) → HasMates events → partner_of (pairs_of events) a ≡ Some b → named events a ≡ Some one → named events b ≡ Some other
     → IsSending one → IsSending other → ⊥
-not_both events a b one other has paired first second is too = elim (has.matched.pair a b paired) [
+not_both events a b one other has paired first second is too = elim (has.matched.pairs_accept a b paired) [
   | inl takes ↦ (
       let calls : Some takes.post_call ≡ Some one = sym takes.post_is ∙ first in
       let same : takes.post_call ≡ one = cc in
@@ -184,7 +184,7 @@ sent_to me call sender comm dest tag ints sync h = absurd (cc)
 name_stays : (events : List Event) (k s rank number : ℕ) → name_at (take k events) s ≡ Some (rank, number) → name_at events s ≡ Some (rank, number)
 name_stays events k s rank number h = start_named events rank number s (longer_passing (is_start_of rank) events k number s (named_start (take k events) rank number s h))
 
-pub taker_of : (next : Next) (n : ℕ) (events : List Event) (depths : List ℕ) (link : Link) (made : IsLink n events depths link) (s : ℕ) (send : Event) (comm dest tag : ℕ) (ints : List ℤ) (sync : Bool)
+pub taker_of : (next : Next) (n : ℕ) (events : List Event) (depths : List ℕ) (link : CompletedStart) (made : IsLink n events depths link) (s : ℕ) (send : Event) (comm dest tag : ℕ) (ints : List ℤ) (sync : Bool)
     → IsRun next n events → AreDepths n events depths → slice_get events s ≡ Some send → send.call ≡ Send comm dest tag ints sync → link.cause ≡ Some s
     → IsTaker events made.event.rank (slice_index (listed_by made.event.call) made.item.index) s dest
 taker_of next n events depths link made s send comm dest tag ints sync run are there called cause =
@@ -192,7 +192,7 @@ taker_of next n events depths link made s send comm dest tag ints sync run are t
     let before : List Event = take at events in
     let me : ℕ = made.event.rank in
     let number : ℕ = slice_index (listed_by made.event.call) made.item.index in
-    let is : deepest (take at depths) (completed_from n before me number made.item.got) ≡ Some s = sym (ap (λ (l : Link). l.cause) made.is) ∙ cause in
+    let is : deepest (take at depths) (completed_from n before me number made.item.got) ≡ Some s = sym (ap (λ (l : CompletedStart). l.cause) made.is) ∙ cause in
     let among = deepest_among (take at depths) (completed_from n before me number made.item.got) s is in
     let low = taken_length depths at in
     let within = among.1 in
@@ -210,7 +210,7 @@ taker_of next n events depths link made s send comm dest tag ints sync run are t
       name = with.name;
       named = name_is;
       paired = paired;
-      receiver = elim (whole.matched.pair (me, number) with.name paired) [
+      receiver = elim (whole.matched.pairs_accept (me, number) with.name paired) [
         | inl takes ↦ (
             let calls : Some takes.send_call ≡ Some send.call = sym takes.send_is ∙ sent in
             let same : takes.send_call ≡ send.call = cc in
@@ -229,7 +229,7 @@ taker_of next n events depths link made s send comm dest tag ints sync run are t
     taken_length (x ∷ xs) (suc k) = (let rest = taken_length xs k in omega (arith, rest))
 
 -- a Send has one taker
-one_taker : (next : Next) (n : ℕ) (events : List Event) (depths : List ℕ) (one other : Link) (s : ℕ) (send : Event) (comm dest tag : ℕ) (ints : List ℤ) (sync : Bool)
+one_taker : (next : Next) (n : ℕ) (events : List Event) (depths : List ℕ) (one other : CompletedStart) (s : ℕ) (send : Event) (comm dest tag : ℕ) (ints : List ℤ) (sync : Bool)
     → IsRun next n events → AreDepths n events depths → slice_get events s ≡ Some send → send.call ≡ Send comm dest tag ints sync
     → IsIn one (links_of n events depths) → IsIn other (links_of n events depths) → one.cause ≡ Some s → other.cause ≡ Some s → one ≡ other
 one_taker next n events depths one other s send comm dest tag ints sync run are there called first second cause also =
@@ -242,17 +242,17 @@ one_taker next n events depths one other s send comm dest tag ints sync run are 
     let whole = run_mates next n events run in
     let my : Name = (a.event.rank, slice_index (listed_by a.event.call) a.item.index) in
     let its : Name = (b.event.rank, slice_index (listed_by b.event.call) b.item.index) in
-    let back : partner_of (pairs_of events) x.name ≡ Some my = whole.matched.single my x.name x.paired in
-    let back_too : partner_of (pairs_of events) y.name ≡ Some its = whole.matched.single its y.name y.paired in
+    let back : partner_of (pairs_of events) x.name ≡ Some my = whole.matched.one_partner my x.name x.paired in
+    let back_too : partner_of (pairs_of events) y.name ≡ Some its = whole.matched.one_partner its y.name y.paired in
     let names = same_parts my its (sym back ∙ (ap (partner_of (pairs_of events)) name ∙ back_too)) in
     one_of_name next n events depths one other a b run names.0 names.1
 
-is_cause : (o : Option ℕ) (s : ℕ) → is_there o s ≡ true → o ≡ Some s
+is_cause : (o : Option ℕ) (s : ℕ) → is_at_position o s ≡ true → o ≡ Some s
 is_cause None s h = absurd (cc)
 is_cause (Some p) s h = ap (λ k. Some k) (eqb-true p s h)
 
-cause_is : (o : Option ℕ) (s : ℕ) → o ≡ Some s → is_there o s ≡ true
-cause_is o s h = ap (λ c. is_there c s) h ∙ eq-eqb s s refl
+cause_is : (o : Option ℕ) (s : ℕ) → o ≡ Some s → is_at_position o s ≡ true
+cause_is o s h = ap (λ c. is_at_position c s) h ∙ eq-eqb s s refl
 
 pub taker_twins : (next : Next) (n : ℕ) (one other : List Event) (depths depths' : List ℕ) (p q : ℕ) (send : Event) (comm dest tag : ℕ) (ints : List ℤ) (sync : Bool)
     → AreTwinSides next n one other depths depths' → IsTwin one other p q → slice_get one p ≡ Some send → send.call ≡ Send comm dest tag ints sync
@@ -261,7 +261,7 @@ taker_twins next n one other depths depths' p q send comm dest tag ints sync sid
     let both = said one other p q (whole_agree one other sides.runs.views) twin in
     let same = one_event one p both.event send both.there there in
     let called_too : both.twin.call ≡ Send comm dest tag ints sync = both.call_is ∙ (ap (λ (e : Event). e.call) same ∙ called) in
-    alike_found (IsTwinLink one other) (λ (link : Link). is_there link.cause p) (λ (link : Link). is_there link.cause q) (links_of n one depths) (links_of n other depths')
+    alike_found (IsTwinLink one other) (λ (link : CompletedStart). is_at_position link.cause p) (λ (link : CompletedStart). is_at_position link.cause q) (links_of n one depths) (links_of n other depths')
     (taker_in (links_of n one depths) p) (taker_in (links_of n other depths') q)
     (λ link among passes. (
     let over = link_over next n one other depths depths' link sides among in
@@ -279,12 +279,12 @@ taker_twins next n one other depths depths' p q send comm dest tag ints sync sid
     refl refl
 
 -- a taker stands at the receiver
-pub taker_rank : (next : Next) (n : ℕ) (events : List Event) (depths : List ℕ) (link : Link) (s : ℕ) (send : Event) (comm dest tag : ℕ) (ints : List ℤ) (sync : Bool)
+pub taker_rank : (next : Next) (n : ℕ) (events : List Event) (depths : List ℕ) (link : CompletedStart) (s : ℕ) (send : Event) (comm dest tag : ℕ) (ints : List ℤ) (sync : Bool)
     → IsRun next n events → AreDepths n events depths → slice_get events s ≡ Some send → send.call ≡ Send comm dest tag ints sync
-    → IsIn link (links_of n events depths) → is_there link.cause s ≡ true → (event : Event) × (slice_get events link.at ≡ Some event) × (event.rank ≡ dest)
+    → IsIn link (links_of n events depths) → is_at_position link.cause s ≡ true → (event : Event) × (slice_get events link.at ≡ Some event) × (event.rank ≡ dest)
 taker_rank next n events depths link s send comm dest tag ints sync run are there called among passes =
     let made = link_found n events depths link among in
     let taker = taker_of next n events depths link made s send comm dest tag ints sync run are there called (is_cause link.cause s passes) in
-    let at : link.at ≡ made.at = ap (λ (l : Link). l.at) made.is ∙ cut_at events made.at made.event made.there in
+    let at : link.at ≡ made.at = ap (λ (l : CompletedStart). l.at) made.is ∙ cut_at events made.at made.event made.there in
     let G : ℕ → Type 0 = λ k. slice_get events k ≡ Some made.event in
     (made.event, subst G (sym at) made.there, sym taker.receiver)

@@ -9,7 +9,7 @@ use Rattle.run_model.specs.declared.event.Event.{Event}
 use Rattle.run_model.specs.Views.{View, view_of}
 use Rattle.run_model.proofs.StartLemmas.{slice_get-append, slice_get-below}
 use Rattle.run_model.proofs.Views.{test_cases}
-use Rattle.causes.specs.Positions.{is_of, positions}
+use Rattle.causes.specs.Positions.{is_event_of, positions}
 use Rattle.causes.proofs.Deciding.{below_some}
 use Rattle.causes.proofs.PositionLemmas.{in-placed, positions-append, positions-rise}
 use Rattle.run_drawing.proofs.Alike.{AreAlike, alike_each}
@@ -50,7 +50,7 @@ place_other from x xs rank number at other rest =
       placed = record { event = placed.event; there = placed.there; own = placed.own; seen = rw other placed.seen; before = rw other placed.before };
     }
 
-place_from : (rank from : ℕ) (events : List Event) (number at : ℕ) → slice_get (positions (is_of rank) from events) number ≡ Some at → IsPlaceFrom from events rank number at
+place_from : (rank from : ℕ) (events : List Event) (number at : ℕ) → slice_get (positions (is_event_of rank) from events) number ≡ Some at → IsPlaceFrom from events rank number at
 place_from rank from [] number at h = absurd (cc)
 place_from rank from (x ∷ xs) zero at h = elim (test_cases (x.rank == rank)) [
   | inl own ↦ (
@@ -68,7 +68,7 @@ place_from rank from (x ∷ xs) (suc number) at h = elim (test_cases (x.rank == 
   | inr other ↦ place_other from x xs rank (suc number) at other (place_from rank (from + 1) xs (suc number) at (rw other at h))
 ]
 
-pub place_of : (events : List Event) (rank number at : ℕ) → slice_get (positions (is_of rank) 0 events) number ≡ Some at → IsPlace events rank number at
+pub place_of : (events : List Event) (rank number at : ℕ) → slice_get (positions (is_event_of rank) 0 events) number ≡ Some at → IsPlace events rank number at
 place_of events rank number at h =
     let found = place_from rank 0 events number at h in
     let is = found.is in
@@ -77,7 +77,7 @@ place_of events rank number at h =
     subst P same found.placed
 
 -- a rank has as many positions as its view has events
-pub as_many_seen : (rank from : ℕ) (events : List Event) → length (positions (is_of rank) from events) ≡ length (view_of events rank)
+pub as_many_seen : (rank from : ℕ) (events : List Event) → length (positions (is_event_of rank) from events) ≡ length (view_of events rank)
 as_many_seen rank from [] = refl
 as_many_seen rank from (x ∷ xs) = elim (test_cases (x.rank == rank)) [
   | inl own ↦ rw own (ap suc (as_many_seen rank (from + 1) xs))
@@ -92,16 +92,16 @@ in_get (y ∷ xs) x h = elim h [
 ]
 
 -- the number of the event at a position
-pub number_there : (events : List Event) (at : ℕ) (event : Event) → slice_get events at ≡ Some event → (number : ℕ) × (slice_get (positions (is_of event.rank) 0 events) number ≡ Some at)
+pub number_there : (events : List Event) (at : ℕ) (event : Event) → slice_get events at ≡ Some event → (number : ℕ) × (slice_get (positions (is_event_of event.rank) 0 events) number ≡ Some at)
 number_there events at event there =
-    in_get (positions (is_of event.rank) 0 events) at (in-placed (is_of event.rank) events at event there (eq-eqb event.rank event.rank refl))
+    in_get (positions (is_event_of event.rank) 0 events) at (in-placed (is_event_of event.rank) events at event there (eq-eqb event.rank event.rank refl))
 
 -- a rank's event of one number stands at these positions
 pub record IsTwin (one other : List Event) (p q : ℕ) : Type 0 where
   pub rank : ℕ
   pub number : ℕ
-  pub first : slice_get (positions (is_of rank) 0 one) number ≡ Some p
-  pub second : slice_get (positions (is_of rank) 0 other) number ≡ Some q
+  pub first : slice_get (positions (is_event_of rank) 0 one) number ≡ Some p
+  pub second : slice_get (positions (is_event_of rank) 0 other) number ≡ Some q
 
 abbrev pub turned : (one other : List Event) (p q : ℕ) → IsTwin one other p q → IsTwin other one q p
 turned one other p q twin = record { rank = twin.rank; number = twin.number; first = twin.second; second = twin.first }
@@ -120,35 +120,35 @@ pub longer_twins : (one other : List Event) (j k p q : ℕ) → IsTwin (take j o
 longer_twins one other j k p q twin = record {
   rank = twin.rank;
   number = twin.number;
-  first = longer_passing (is_of twin.rank) one j twin.number p twin.first;
-  second = longer_passing (is_of twin.rank) other k twin.number q twin.second;
+  first = longer_passing (is_event_of twin.rank) one j twin.number p twin.first;
+  second = longer_passing (is_event_of twin.rank) other k twin.number q twin.second;
 }
 
 -- the numbers of positions of one rank rise with them
-pub numbers_rise : (events : List Event) (rank i j p q : ℕ) → slice_get (positions (is_of rank) 0 events) i ≡ Some p → slice_get (positions (is_of rank) 0 events) j ≡ Some q → p < q → i < j
+pub numbers_rise : (events : List Event) (rank i j p q : ℕ) → slice_get (positions (is_event_of rank) 0 events) i ≡ Some p → slice_get (positions (is_event_of rank) 0 events) j ≡ Some q → p < q → i < j
 numbers_rise events rank i j p q one other less = elim (cases_order i j) [
   | inl same ↦ (
-      let P : ℕ → Type 0 = λ k. slice_get (positions (is_of rank) 0 events) k ≡ Some p in
+      let P : ℕ → Type 0 = λ k. slice_get (positions (is_event_of rank) 0 events) k ≡ Some p in
       let both : Some p ≡ Some q = sym (subst P same one) ∙ other in
       let equal : p ≡ q = cc in
       absurd (omega (arith, less, equal)))
   | inr apart ↦ elim apart [
     | inl low ↦ low
-    | inr high ↦ (let more = rising_less 0 (positions (is_of rank) 0 events) j i q p (positions-rise (is_of rank) 0 events) high other one in absurd (omega (arith, less, more)))
+    | inr high ↦ (let more = rising_less 0 (positions (is_event_of rank) 0 events) j i q p (positions-rise (is_event_of rank) 0 events) high other one in absurd (omega (arith, less, more)))
   ]
 ]
 
-one_number : (events : List Event) (rank i j p : ℕ) → slice_get (positions (is_of rank) 0 events) i ≡ Some p → slice_get (positions (is_of rank) 0 events) j ≡ Some p → i ≡ j
+one_number : (events : List Event) (rank i j p : ℕ) → slice_get (positions (is_event_of rank) 0 events) i ≡ Some p → slice_get (positions (is_event_of rank) 0 events) j ≡ Some p → i ≡ j
 one_number events rank i j p one other = elim (cases_order i j) [
   | inl same ↦ same
   | inr apart ↦ elim apart [
-    | inl low ↦ (let less = rising_less 0 (positions (is_of rank) 0 events) i j p p (positions-rise (is_of rank) 0 events) low one other in absurd (omega (arith, less)))
-    | inr high ↦ (let less = rising_less 0 (positions (is_of rank) 0 events) j i p p (positions-rise (is_of rank) 0 events) high other one in absurd (omega (arith, less)))
+    | inl low ↦ (let less = rising_less 0 (positions (is_event_of rank) 0 events) i j p p (positions-rise (is_event_of rank) 0 events) low one other in absurd (omega (arith, less)))
+    | inr high ↦ (let less = rising_less 0 (positions (is_event_of rank) 0 events) j i p p (positions-rise (is_event_of rank) 0 events) high other one in absurd (omega (arith, less)))
   ]
 ]
 
 -- the rank at a position is one
-one_rank : (events : List Event) (rank rank' i j p : ℕ) → slice_get (positions (is_of rank) 0 events) i ≡ Some p → slice_get (positions (is_of rank') 0 events) j ≡ Some p → rank ≡ rank'
+one_rank : (events : List Event) (rank rank' i j p : ℕ) → slice_get (positions (is_event_of rank) 0 events) i ≡ Some p → slice_get (positions (is_event_of rank') 0 events) j ≡ Some p → rank ≡ rank'
 one_rank events rank rank' i j p one other =
     let a = place_of events rank i p one in
     let b = place_of events rank' j p other in
@@ -159,13 +159,13 @@ one_rank events rank rank' i j p one other =
 -- a position has one twin
 pub one_twin : (one other : List Event) (p q p' q' : ℕ) → IsTwin one other p q → IsTwin one other p' q' → p ≡ p' → q ≡ q'
 one_twin one other p q p' q' twin twin' same =
-    let P : ℕ → Type 0 = λ k. slice_get (positions (is_of twin.rank) 0 one) twin.number ≡ Some k in
-    let first : slice_get (positions (is_of twin.rank) 0 one) twin.number ≡ Some p' = subst P same twin.first in
+    let P : ℕ → Type 0 = λ k. slice_get (positions (is_event_of twin.rank) 0 one) twin.number ≡ Some k in
+    let first : slice_get (positions (is_event_of twin.rank) 0 one) twin.number ≡ Some p' = subst P same twin.first in
     let rank : twin.rank ≡ twin'.rank = one_rank one twin.rank twin'.rank twin.number twin'.number p' first twin'.first in
-    let R : ℕ → Type 0 = λ r. slice_get (positions (is_of r) 0 one) twin.number ≡ Some p' in
-    let S : ℕ → Type 0 = λ r. slice_get (positions (is_of r) 0 other) twin.number ≡ Some q in
+    let R : ℕ → Type 0 = λ r. slice_get (positions (is_event_of r) 0 one) twin.number ≡ Some p' in
+    let S : ℕ → Type 0 = λ r. slice_get (positions (is_event_of r) 0 other) twin.number ≡ Some q in
     let number : twin.number ≡ twin'.number = one_number one twin'.rank twin.number twin'.number p' (subst R rank first) twin'.first in
-    let N : ℕ → Type 0 = λ k. slice_get (positions (is_of twin'.rank) 0 other) k ≡ Some q in
+    let N : ℕ → Type 0 = λ k. slice_get (positions (is_event_of twin'.rank) 0 other) k ≡ Some q in
     let both : Some q ≡ Some q' = sym (subst N number (subst S rank twin.second)) ∙ twin'.second in
     cc
 
@@ -262,27 +262,27 @@ pub twin_there : (one other : List Event) (p : ℕ) (event : Event) → view_of 
 twin_there one other p event same there =
     let rank : ℕ = event.rank in
     let found = number_there one p event there in
-    let low = slice_get-below (positions (is_of rank) 0 one) found.0 p found.1 in
+    let low = slice_get-below (positions (is_event_of rank) 0 one) found.0 p found.1 in
     let a = as_many_seen rank 0 one in
     let b = as_many_seen rank 0 other in
     let long = ap (λ (v : View). length v) same in
-    let second = below_some (positions (is_of rank) 0 other) found.0 (omega (arith, low, a, b, long)) in
+    let second = below_some (positions (is_event_of rank) 0 other) found.0 (omega (arith, low, a, b, long)) in
     (second.0, record { rank = rank; number = found.0; first = found.1; second = second.1 })
 
 -- the events of a rank are twins, one by one
-pub own_twins : (one other : List Event) (rank : ℕ) → view_of one rank ≡ view_of other rank → AreAlike (IsTwin one other) (positions (is_of rank) 0 one) (positions (is_of rank) 0 other)
+pub own_twins : (one other : List Event) (rank : ℕ) → view_of one rank ≡ view_of other rank → AreAlike (IsTwin one other) (positions (is_event_of rank) 0 one) (positions (is_event_of rank) 0 other)
 own_twins one other rank same =
-    alike_each (IsTwin one other) (positions (is_of rank) 0 one) (positions (is_of rank) 0 other)
+    alike_each (IsTwin one other) (positions (is_event_of rank) 0 one) (positions (is_event_of rank) 0 other)
     (as_many_seen rank 0 one ∙ (ap (λ (v : View). length v) same ∙ sym (as_many_seen rank 0 other)))
     (λ k p q h h'. record { rank = rank; number = k; first = h; second = h' })
 
 -- twins of one rank stand in one order
 pub same_order : (one other : List Event) (p q p' q' : ℕ) (twin : IsTwin one other p q) (twin' : IsTwin one other p' q') → twin.rank ≡ twin'.rank → p < p' → q < q'
 same_order one other p q p' q' twin twin' rank less =
-    let R : ℕ → Type 0 = λ r. slice_get (positions (is_of r) 0 one) twin.number ≡ Some p in
-    let S : ℕ → Type 0 = λ r. slice_get (positions (is_of r) 0 other) twin.number ≡ Some q in
+    let R : ℕ → Type 0 = λ r. slice_get (positions (is_event_of r) 0 one) twin.number ≡ Some p in
+    let S : ℕ → Type 0 = λ r. slice_get (positions (is_event_of r) 0 other) twin.number ≡ Some q in
     let numbers = numbers_rise one twin'.rank twin.number twin'.number p p' (subst R rank twin.first) twin'.first less in
-    rising_less 0 (positions (is_of twin'.rank) 0 other) twin.number twin'.number q q' (positions-rise (is_of twin'.rank) 0 other) numbers (subst S rank twin.second) twin'.second
+    rising_less 0 (positions (is_event_of twin'.rank) 0 other) twin.number twin'.number q q' (positions-rise (is_event_of twin'.rank) 0 other) numbers (subst S rank twin.second) twin'.second
 
 pub same_less : (one other : List Event) (p q p' q' : ℕ) (twin : IsTwin one other p q) (twin' : IsTwin one other p' q') → twin.rank ≡ twin'.rank → nat_lt p p' ≡ nat_lt q q'
 same_less one other p q p' q' twin twin' rank = elim (cases_lt p p') [

@@ -13,7 +13,7 @@ use Rattle.mpi_call.specs.declared.reply.Reply.TheVariants.{Done, Peeked, Stoppe
 use Rattle.run_model.specs.declared.event.Event.{Event}
 use Rattle.run_model.specs.Pairs.{pairs_of, partner_of}
 use Rattle.run_model.specs.Views.{view_of}
-use Rattle.run_drawing.specs.declared.drawing.Mark.{Mark}
+use Rattle.run_drawing.specs.declared.drawing.DrawnMark.{DrawnMark}
 use Rattle.run_drawing.specs.declared.drawing.Point.{Point}
 use Rattle.run_drawing.specs.Basis.{Basis}
 use Rattle.run_drawing.specs.Drawings.{drawn}
@@ -21,7 +21,7 @@ use Rattle.run_drawing.specs.Drawings.{drawn}
 abbrev event_of : ℕ → Call → Reply → Option ℕ → Event
 event_of rank call reply mate = record { rank = rank; call = call; reply = reply; mate = mate }
 
-abbrev mark : ℕ → ℕ → ℕ → Bool → Mark
+abbrev mark : ℕ → ℕ → ℕ → Bool → DrawnMark
 mark rank number column is_wild = record { rank = rank; number = number; column = column; is_wild = is_wild }
 
 abbrev at : ℕ → ℕ → Point
@@ -165,7 +165,7 @@ first_of_0 = refl
 second_of_0 : partner_of (pairs_of (crossed 2 0)) (0, 0) ≡ Some (1, 1)
 second_of_0 = refl
 
-abbrev waits_at : ℕ → ℕ → List Mark
+abbrev waits_at : ℕ → ℕ → List DrawnMark
 waits_at one other =
     mark 0 0 0 false
     ∷ mark 0 1 one false

@@ -1,15 +1,11 @@
 -- Columns: an event stands at its depth; the events that stop their ranks stand in one column behind all others.
-use Rattle.std.specs.Prelude.{ℕ, zero, suc, ◌+◌, List, Option, Some, None, Bool, if◌then◌else◌, is_some, length, max, slice_get, slice_index}
+use Rattle.std.specs.Prelude.{ℕ, zero, suc, ◌+◌, List, Option, Some, None, if◌then◌else◌, length, max, slice_get, slice_index}
 use Rattle.std.specs.List.{list_any}
-use Rattle.mpi_call.specs.declared.reply.Reply.{Reply}
 use Rattle.run_model.specs.declared.event.Event.{Event}
-use Rattle.run_model.specs.Due.{halt_in}
+use Rattle.run_model.specs.Due.{stops}
+use Rattle.run_model.specs.Views.{rank_of_event}
 use Rattle.run_drawing.specs.declared.drawing.Point.{Point}
 use Rattle.run_drawing.specs.Basis.{Basis}
-
--- a reply that stops its rank
-abbrev pub stops : Reply → Bool
-stops reply = is_some (halt_in reply)
 
 -- the column behind an event of this depth, where there is an event that stops no rank
 abbrev pub column_behind : Option Event → ℕ → ℕ
@@ -38,11 +34,6 @@ column basis p = column_by (behind_all basis.events basis.depths) (slice_index b
 abbrev pub columns_of : List Event → List ℕ → ℕ
 columns_of events depths = behind_all events depths + (if list_any (λ (event : Event). stops event.reply) events then 1 else 0)
 
--- the rank of an event
-abbrev pub rank_in : Option Event → ℕ
-rank_in None = 0
-rank_in (Some event) = event.rank
-
 -- where the event at a position stands
 abbrev pub point : Basis → ℕ → Point
-point basis p = record { rank = rank_in (slice_get basis.events p); column = column basis p }
+point basis p = record { rank = rank_of_event (slice_get basis.events p); column = column basis p }

@@ -1,12 +1,12 @@
 -- How deep events lie: the lengths of the longest chains of causes that end with them.
 use Rattle.std.specs.Prelude.{◌≡◌, ◌<◌, ◌≤◌, ℕ, zero, suc, List, length, slice_index}
 use Rattle.run_model.specs.declared.event.Event.{Event}
-use Rattle.causes.specs.Before.{IsStep}
+use Rattle.causes.specs.Before.{PrecedesDirectly}
 
 -- a chain of so many steps ends at a position
 pub data IsChain (n : ℕ) (events : List Event) : ℕ → ℕ → Type 0 where
   alone : (u : ℕ) → IsChain n events zero u
-  longer : (steps t u : ℕ) → IsChain n events steps t → IsStep n events t u → IsChain n events (suc steps) u
+  longer : (steps t u : ℕ) → IsChain n events steps t → PrecedesDirectly n events t u → IsChain n events (suc steps) u
 
 -- the longest chain that ends there has so many
 pub record IsDepth (n : ℕ) (events : List Event) (u depth : ℕ) : Type 0 where

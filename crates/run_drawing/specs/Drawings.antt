@@ -9,31 +9,28 @@ use Rattle.mpi_call.specs.declared.call.Tag.{Tag}
 use Rattle.mpi_call.specs.declared.reply.Item.{Item}
 use Rattle.mpi_call.specs.declared.reply.Reply.{Reply}
 use Rattle.mpi_call.specs.declared.reply.Reply.TheVariants.{Peeked, Took}
-use Rattle.mpi_call.specs.Calls.{listed_by}
+use Rattle.mpi_call.specs.Calls.{is_wildcard, listed_by}
 use Rattle.run_model.specs.declared.event.Event.{Event}
-use Rattle.causes.specs.Clocks.{Tells}
-use Rattle.causes.specs.Positions.{is_of, is_start_of, positions, start_position}
+use Rattle.run_model.specs.Views.{rank_of_event}
+use Rattle.causes.specs.Clocks.{TellsBefore}
+use Rattle.causes.specs.Positions.{is_event_of, is_start_of, positions, start_position}
 use Rattle.group_plan.specs.Plans.{group_of, number_of_ranks}
-use Rattle.msg_races.specs.Listing.{joined}
+use Rattle.msg_races.specs.Listing.{lists_below}
+use Rattle.run_drawing.specs.declared.choices.Posted.{Posted}
 use Rattle.run_drawing.specs.declared.drawing.Arrow.{Arrow}
-use Rattle.run_drawing.specs.declared.drawing.Collective.{Collective}
-use Rattle.run_drawing.specs.declared.drawing.Mark.{Mark}
-use Rattle.run_drawing.specs.declared.drawing.Message.{Message}
+use Rattle.run_drawing.specs.declared.drawing.DrawnCollective.{DrawnCollective}
+use Rattle.run_drawing.specs.declared.drawing.DrawnMark.{DrawnMark}
+use Rattle.run_drawing.specs.declared.drawing.DrawnMessage.{DrawnMessage}
 use Rattle.run_drawing.specs.declared.drawing.Point.{Point}
-use Rattle.run_drawing.specs.declared.drawing.Receive.{Receive}
+use Rattle.run_drawing.specs.declared.drawing.DrawnReceive.{DrawnReceive}
 use Rattle.run_drawing.specs.declared.drawing.Unreceived.{Unreceived}
-use Rattle.run_drawing.specs.declared.links.Link.{Link}
+use Rattle.run_drawing.specs.declared.links.CompletedStart.{CompletedStart}
 use Rattle.run_drawing.specs.Basis.{Basis}
-use Rattle.run_drawing.specs.Choices.{choices}
-use Rattle.run_drawing.specs.Columns.{column, columns_of, point, rank_in}
+use Rattle.run_drawing.specs.Choices.{choices, posted_at}
+use Rattle.run_drawing.specs.Columns.{column, columns_of, point}
 use Rattle.run_drawing.specs.Depths.{AreDepths}
 use Rattle.run_drawing.specs.Drawn.{Drawn}
-use Rattle.run_drawing.specs.Links.{cause_at, completion_in, last_of, links, taker_in}
-
--- a receive from any source
-abbrev pub is_wildcard : Call → Bool
-is_wildcard (Post comm Any tag room) = true
-is_wildcard call = false
+use Rattle.run_drawing.specs.Links.{cause_at, completion_in, last_position, links, taker_in}
 
 -- the same, where there is an event
 abbrev pub is_wildcard_in : Option Event → Bool
@@ -57,18 +54,18 @@ takes_wildcard_in events None = false
 takes_wildcard_in events (Some event) = takes_wildcard events event.rank event.call event.reply
 
 -- the mark of the event at a position
-abbrev pub mark_at : Basis → ℕ → ℕ → ℕ → Mark
+abbrev pub mark_at : Basis → ℕ → ℕ → ℕ → DrawnMark
 mark_at basis rank number p =
     record { rank = rank; number = number; column = column basis p; is_wild = takes_wildcard_in basis.events (slice_get basis.events p) }
 
 -- the marks of a rank's events at these positions, numbered from `number` on
-abbrev pub marks_from : Basis → ℕ → ℕ → List ℕ → List Mark
+abbrev pub marks_from : Basis → ℕ → ℕ → List ℕ → List DrawnMark
 marks_from basis rank number [] = []
 marks_from basis rank number (p ∷ places) = mark_at basis rank number p ∷ marks_from basis rank (number + 1) places
 
 -- a mark for each event of a rank
-abbrev pub marks_of : Basis → ℕ → List Mark
-marks_of basis rank = marks_from basis rank 0 (positions (is_of rank) 0 basis.events)
+abbrev pub drawn_marks : Basis → ℕ → List DrawnMark
+drawn_marks basis rank = marks_from basis rank 0 (positions (is_event_of rank) 0 basis.events)
 
 -- the column of a position, where there is one
 abbrev pub column_in : Basis → Option ℕ → ℕ
@@ -76,56 +73,55 @@ column_in basis None = 0
 column_in basis (Some p) = column basis p
 
 -- the column where the bar of a rank's receive ends: at its completion, else at the rank's last event
-abbrev pub end_of : Basis → ℕ → Option Link → ℕ
-end_of basis rank None = column_in basis (last_of basis.events rank)
-end_of basis rank (Some link) = column basis link.at
-
--- what a receive could have taken instead, where it is from any source
-abbrev pub choices_by : Basis → ℕ → ℕ → Source → Tag → ℕ → ℕ → ℕ → List Point
-choices_by basis rank comm Any tag p at took = choices basis rank comm tag p at took
-choices_by basis rank comm source tag p at took = []
-
--- the message of the Send at a position, that a receive took
-abbrev pub message_from : Basis → ℕ → ℕ → Source → Tag → ℕ → ℕ → Option ℕ → Option Message
-message_from basis rank comm source tag p at None = None
-message_from basis rank comm source tag p at (Some s) =
-    Some (record {
-      sender = point basis s;
-      choices = choices_by basis rank comm source tag p at (rank_in (slice_get basis.events s));
-    })
-
--- the message of a completed receive
-abbrev pub message_by : Basis → ℕ → ℕ → Source → Tag → ℕ → Option Link → Option Message
-message_by basis rank comm source tag p None = None
-message_by basis rank comm source tag p (Some link) = message_from basis rank comm source tag p link.at link.cause
+abbrev pub bar_end : Basis → ℕ → Option CompletedStart → ℕ
+bar_end basis rank None = column_in basis (last_position basis.events rank)
+bar_end basis rank (Some link) = column basis link.at
 
 -- a source is any
 abbrev pub is_any : Source → Bool
 is_any Any = true
 is_any source = false
 
--- a receive that was posted at position p
-abbrev pub receive_of : Basis → ℕ → ℕ → ℕ → Source → Tag → Option Link → Receive
-receive_of basis p rank comm source tag completion = record {
-  rank = rank;
-  from = column basis p;
-  to = end_of basis rank completion;
-  is_wild = is_any source;
-  message = message_by basis rank comm source tag p completion;
+-- what a receive could have taken instead, where it is from any source
+abbrev pub wildcard_choices : Basis → Posted → ℕ → ℕ → List Point
+wildcard_choices basis posted at took = if is_any posted.source then choices basis posted at took else []
+
+-- the message of the Send at a position, that a receive took
+abbrev pub drawn_message : Basis → Posted → ℕ → Option ℕ → Option DrawnMessage
+drawn_message basis posted at None = None
+drawn_message basis posted at (Some s) =
+    Some (record {
+      sender = point basis s;
+      choices = wildcard_choices basis posted at (rank_of_event (slice_get basis.events s));
+    })
+
+-- the message of a completed receive
+abbrev pub completed_message : Basis → Posted → Option CompletedStart → Option DrawnMessage
+completed_message basis posted None = None
+completed_message basis posted (Some link) = drawn_message basis posted link.at link.cause
+
+-- a receive that was posted
+abbrev pub drawn_receive : Basis → Posted → Option CompletedStart → DrawnReceive
+drawn_receive basis posted completion = record {
+  rank = posted.rank;
+  from = column basis posted.place;
+  to = bar_end basis posted.rank completion;
+  is_wild = is_any posted.source;
+  message = completed_message basis posted completion;
 }
 
 -- the same, where the call is a receive, but for one from the null process
-abbrev pub receive_by : Basis → ℕ → ℕ → Call → List Receive
+abbrev pub receive_by : Basis → ℕ → ℕ → Call → List DrawnReceive
 receive_by basis p rank (Post comm Null tag room) = []
-receive_by basis p rank (Post comm source tag room) = receive_of basis p rank comm source tag (completion_in (links basis) p) ∷ []
+receive_by basis p rank (Post comm source tag room) = drawn_receive basis (posted_at p rank comm source tag) (completion_in (links basis) p) ∷ []
 receive_by basis p rank call = []
 
 -- the same, of the event at a position
-abbrev pub receive_in : Basis → ℕ → Option Event → List Receive
+abbrev pub receive_in : Basis → ℕ → Option Event → List DrawnReceive
 receive_in basis p None = []
 receive_in basis p (Some event) = receive_by basis p event.rank event.call
 
-abbrev pub receive_at : Basis → ℕ → List Receive
+abbrev pub receive_at : Basis → ℕ → List DrawnReceive
 receive_at basis p = receive_in basis p (slice_get basis.events p)
 
 -- the last Enter that a completion had to wait for, unless it is the rank's own, at position p
@@ -134,7 +130,7 @@ latest_of basis p None = None
 latest_of basis p (Some q) = if q == p then None else Some (point basis q)
 
 -- a collective that a rank entered at position p and completed
-abbrev pub collective_of : Basis → ℕ → ℕ → Option Link → List Collective
+abbrev pub collective_of : Basis → ℕ → ℕ → Option CompletedStart → List DrawnCollective
 collective_of basis p rank None = []
 collective_of basis p rank (Some link) = (record {
   rank = rank;
@@ -144,20 +140,20 @@ collective_of basis p rank (Some link) = (record {
 }) ∷ []
 
 -- the same, where the call is a collective
-abbrev pub collective_by : Basis → ℕ → ℕ → Call → List Collective
+abbrev pub collective_by : Basis → ℕ → ℕ → Call → List DrawnCollective
 collective_by basis p rank (Enter comm kind root op count ints) = collective_of basis p rank (completion_in (links basis) p)
 collective_by basis p rank call = []
 
 -- the same, of the event at a position
-abbrev pub collective_in : Basis → ℕ → Option Event → List Collective
+abbrev pub collective_in : Basis → ℕ → Option Event → List DrawnCollective
 collective_in basis p None = []
 collective_in basis p (Some event) = collective_by basis p event.rank event.call
 
-abbrev pub collective_at : Basis → ℕ → List Collective
+abbrev pub collective_at : Basis → ℕ → List DrawnCollective
 collective_at basis p = collective_in basis p (slice_get basis.events p)
 
 -- a Send whose message no receive took
-abbrev pub unreceived_of : Basis → ℕ → ℕ → ℕ → Option Link → List Unreceived
+abbrev pub unreceived_of : Basis → ℕ → ℕ → ℕ → Option CompletedStart → List Unreceived
 unreceived_of basis p rank receiver None = (record { rank = rank; column = column basis p; receiver = receiver }) ∷ []
 unreceived_of basis p rank receiver (Some link) = []
 
@@ -197,22 +193,22 @@ abbrev pub of_starts : {A : Type 0} → (ℕ → List A) → List Event → ℕ 
 of_starts at events rank = flat_map at (positions (is_start_of rank) 0 events)
 
 abbrev pub of_events : {A : Type 0} → (ℕ → List A) → List Event → ℕ → List A
-of_events at events rank = flat_map at (positions (is_of rank) 0 events)
+of_events at events rank = flat_map at (positions (is_event_of rank) 0 events)
 
 -- the group of each rank
-abbrev pub groups_of : List (List ℕ) → List ℕ
-groups_of plan = joined (λ rank. group_of rank plan ∷ []) (number_of_ranks plan)
+abbrev pub rank_groups : List (List ℕ) → List ℕ
+rank_groups plan = lists_below (λ rank. group_of rank plan ∷ []) (number_of_ranks plan)
 
 -- the drawing
 abbrev pub drawn : List (List ℕ) → Basis → Drawn
 drawn plan basis = record {
-  groups = groups_of plan;
+  groups = rank_groups plan;
   columns = columns_of basis.events basis.depths;
-  marks = joined (marks_of basis) basis.ranks;
-  receives = joined (of_starts (receive_at basis) basis.events) basis.ranks;
-  collectives = joined (of_starts (collective_at basis) basis.events) basis.ranks;
-  probes = joined (of_events (probe_at basis) basis.events) basis.ranks;
-  unreceived = joined (of_starts (unreceived_at basis) basis.events) basis.ranks;
+  marks = lists_below (drawn_marks basis) basis.ranks;
+  receives = lists_below (of_starts (receive_at basis) basis.events) basis.ranks;
+  collectives = lists_below (of_starts (collective_at basis) basis.events) basis.ranks;
+  probes = lists_below (of_events (probe_at basis) basis.events) basis.ranks;
+  unreceived = lists_below (of_starts (unreceived_at basis) basis.events) basis.ranks;
 }
 
 -- the drawing of a history of ranks in groups: by the depths of its events, and by what is before what
@@ -220,5 +216,5 @@ pub record IsDrawing (plan : List (List ℕ)) (events : List Event) (drawing : D
   pub depths : List ℕ
   pub before : ℕ → ℕ → Bool
   pub are_depths : AreDepths (number_of_ranks plan) events depths
-  pub tells : Tells before (number_of_ranks plan) events
+  pub tells : TellsBefore before (number_of_ranks plan) events
   pub is : drawing ≡ drawn plan (record { ranks = number_of_ranks plan; events = events; depths = depths; before = before })

@@ -8,19 +8,20 @@ use Rattle.mpi_call.specs.declared.reply.Reply.TheVariants.{Took}
 use Rattle.mpi_call.specs.Lists.{IsIn}
 use Rattle.mpi_call.specs.Members.{is_member}
 use Rattle.run_model.specs.declared.event.Event.{Event}
+use Rattle.run_model.specs.Due.{stops}
 use Rattle.run_model.specs.Pairs.{pairs_of, partner_of}
 use Rattle.run_model.specs.Run.{IsRun}
 use Rattle.run_model.specs.Views.{Next, start_at, taken_of, view_of}
 use Rattle.group_plan.specs.Plans.{number_of_ranks}
 use Rattle.causes.specs.Before.{IsBefore}
 use Rattle.run_drawing.specs.declared.drawing.Arrow.{Arrow}
-use Rattle.run_drawing.specs.declared.drawing.Collective.{Collective}
-use Rattle.run_drawing.specs.declared.drawing.Mark.{Mark}
-use Rattle.run_drawing.specs.declared.drawing.Message.{Message}
+use Rattle.run_drawing.specs.declared.drawing.DrawnCollective.{DrawnCollective}
+use Rattle.run_drawing.specs.declared.drawing.DrawnMark.{DrawnMark}
+use Rattle.run_drawing.specs.declared.drawing.DrawnMessage.{DrawnMessage}
 use Rattle.run_drawing.specs.declared.drawing.Point.{Point}
-use Rattle.run_drawing.specs.declared.drawing.Receive.{Receive}
+use Rattle.run_drawing.specs.declared.drawing.DrawnReceive.{DrawnReceive}
 use Rattle.run_drawing.specs.Basis.{Basis}
-use Rattle.run_drawing.specs.Columns.{column, stops}
+use Rattle.run_drawing.specs.Columns.{column}
 use Rattle.run_drawing.specs.Depths.{AreDepths}
 use Rattle.run_drawing.specs.Drawings.{IsDrawing}
 use Rattle.run_drawing.specs.Drawn.{Drawn}
@@ -34,8 +35,8 @@ ColumnsRise =
 
 -- messages, collectives and probes go right
 pub record GoesRight (drawing : Drawn) : Type 0 where
-  pub messages : (receive : Receive) (message : Message) → IsIn receive drawing.receives → receive.message ≡ Some message → message.sender.column < receive.to
-  pub collectives : (collective : Collective) (latest : Point) → IsIn collective drawing.collectives → collective.latest ≡ Some latest → latest.column < collective.to
+  pub messages : (receive : DrawnReceive) (message : DrawnMessage) → IsIn receive drawing.receives → receive.message ≡ Some message → message.sender.column < receive.to
+  pub collectives : (collective : DrawnCollective) (latest : Point) → IsIn collective drawing.collectives → collective.latest ≡ Some latest → latest.column < collective.to
   pub probes : (probe : Arrow) → IsIn probe drawing.probes → probe.from.column < probe.to.column
 
 -- each arrow of a drawing goes right
@@ -45,7 +46,7 @@ ArrowsGoRight = (plan : List (List ℕ)) (events : List Event) (drawing : Drawn)
 -- in a run of the program each call of a rank stands to the right of its earlier ones
 abbrev pub LanesRise : Next → Type 0
 LanesRise next =
-    (plan : List (List ℕ)) (events : List Event) (drawing : Drawn) (one other : Mark) → IsRun next (number_of_ranks plan) events → IsDrawing plan events drawing
+    (plan : List (List ℕ)) (events : List Event) (drawing : Drawn) (one other : DrawnMark) → IsRun next (number_of_ranks plan) events → IsDrawing plan events drawing
     → IsIn one drawing.marks → IsIn other drawing.marks → one.rank ≡ other.rank → one.number < other.number → one.column < other.column
 
 -- each rank has seen the same in both

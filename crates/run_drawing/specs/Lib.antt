@@ -5,5 +5,5 @@ pub mod Links
 pub mod Choices
 pub mod Drawn
 pub mod Drawings
-pub mod Scenes
 pub mod Laws
+pub mod inside

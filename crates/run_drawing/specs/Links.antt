@@ -6,10 +6,10 @@ use Rattle.mpi_call.specs.declared.reply.Reply.{Reply}
 use Rattle.mpi_call.specs.declared.reply.Reply.TheVariants.{Took}
 use Rattle.mpi_call.specs.Calls.{listed_by}
 use Rattle.run_model.specs.declared.event.Event.{Event}
-use Rattle.causes.specs.Positions.{is_of, is_there, positions, start_position}
+use Rattle.causes.specs.Positions.{is_event_of, is_at_position, positions, start_position}
 use Rattle.causes.specs.Steps.{completed_from, rests_on}
-use Rattle.msg_races.specs.Listing.{joined}
-use Rattle.run_drawing.specs.declared.links.Link.{Link}
+use Rattle.msg_races.specs.Listing.{lists_below}
+use Rattle.run_drawing.specs.declared.links.CompletedStart.{CompletedStart}
 use Rattle.run_drawing.specs.Basis.{Basis}
 
 -- the deeper of two positions, the first where they are equally deep
@@ -33,16 +33,16 @@ depth_after depths None = 0
 depth_after depths (Some p) = suc (slice_index depths p)
 
 -- the last of a rank's events
-abbrev pub last_of : List Event → ℕ → Option ℕ
-last_of events rank = slice_get (positions (is_of rank) 0 events) (length (positions (is_of rank) 0 events) - 1)
+abbrev pub last_position : List Event → ℕ → Option ℕ
+last_position events rank = slice_get (positions (is_event_of rank) 0 events) (length (positions (is_event_of rank) 0 events) - 1)
 
 -- the link of the start at a position, where there is one
-abbrev pub link_by : Option ℕ → ℕ → Option ℕ → List Link
+abbrev pub link_by : Option ℕ → ℕ → Option ℕ → List CompletedStart
 link_by None at cause = []
 link_by (Some start) at cause = (record { start = start; at = at; cause = cause }) ∷ []
 
 -- the links of a rank's starts that these items complete, after the events before, whose depths are given
-abbrev pub links_in : ℕ → List ℕ → List Event → ℕ → List ℕ → List Item → List Link
+abbrev pub links_in : ℕ → List ℕ → List Event → ℕ → List ℕ → List Item → List CompletedStart
 links_in n depths before me starts [] = []
 links_in n depths before me starts (item ∷ items) =
     link_by (start_position before me (slice_index starts item.index)) (length before)
@@ -50,30 +50,30 @@ links_in n depths before me starts (item ∷ items) =
     ++ links_in n depths before me starts items
 
 -- the same, of a reply
-abbrev pub links_by : ℕ → List ℕ → List Event → ℕ → Call → Reply → List Link
+abbrev pub links_by : ℕ → List ℕ → List Event → ℕ → Call → Reply → List CompletedStart
 links_by n depths before me call (Took items) = links_in n depths before me (listed_by call) items
 links_by n depths before me call reply = []
 
 -- the same, of an event
-abbrev pub links_from : ℕ → List ℕ → List Event → Option Event → List Link
-links_from n depths before None = []
-links_from n depths before (Some event) = links_by n depths before event.rank event.call event.reply
+abbrev pub event_links : ℕ → List ℕ → List Event → Option Event → List CompletedStart
+event_links n depths before None = []
+event_links n depths before (Some event) = links_by n depths before event.rank event.call event.reply
 
 -- the same, of the event at a position
-abbrev pub links_at : ℕ → List Event → List ℕ → ℕ → List Link
-links_at n events depths p = links_from n (take p depths) (take p events) (slice_get events p)
+abbrev pub links_at : ℕ → List Event → List ℕ → ℕ → List CompletedStart
+links_at n events depths p = event_links n (take p depths) (take p events) (slice_get events p)
 
 -- all links
-abbrev pub links : Basis → List Link
-links basis = joined (links_at basis.ranks basis.events basis.depths) (length basis.events)
+abbrev pub links : Basis → List CompletedStart
+links basis = lists_below (links_at basis.ranks basis.events basis.depths) (length basis.events)
 
 -- the completion of the start at a position
-abbrev pub completion_in : List Link → ℕ → Option Link
-completion_in list p = find (λ (link : Link). link.start == p) list
+abbrev pub completion_in : List CompletedStart → ℕ → Option CompletedStart
+completion_in list p = find (λ (link : CompletedStart). link.start == p) list
 
 -- the completion that had to wait for the event at a position: of a Send the one that took its message
-abbrev pub taker_in : List Link → ℕ → Option Link
-taker_in list p = find (λ (link : Link). is_there link.cause p) list
+abbrev pub taker_in : List CompletedStart → ℕ → Option CompletedStart
+taker_in list p = find (λ (link : CompletedStart). is_at_position link.cause p) list
 
 -- the last event that a reply had to wait for
 abbrev pub cause_in : ℕ → List ℕ → List Event → Option Event → Option ℕ

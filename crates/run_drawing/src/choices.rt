@@ -1,12 +1,13 @@
 //! The messages that a receive from any source could have taken instead.
 ghost use Rattle.std.specs.Prelude.{◌≡◌, ◌<◌, ◌≤◌, ◌++◌, ◌^◌, [], ℕ, IfOk, OnOk, false, if◌then◌else◌, length, map, slice_index, Some, true};
+ghost use Rattle.mpi_call.specs.Acceptance.{tag_named};
 ghost use Rattle.causes.specs.Positions.{positions};
 ghost use Rattle.msg_races.specs.declared.sends.Way.{Way as WaySpec};
-ghost use Rattle.msg_races.specs.Listing.{joined};
-ghost use Rattle.msg_races.specs.Ways.{goes, same_way, tag_named};
-ghost use Rattle.run_drawing.specs.Choices.{choice_beside, choice_of, choices, first_open, is_open, unless_late, way_of};
+ghost use Rattle.msg_races.specs.Listing.{lists_below};
+ghost use Rattle.msg_races.specs.Ways.{goes_way, same_way};
+ghost use Rattle.run_drawing.specs.Choices.{choice_beside, choice_of, choices, first_untaken, is_untaken, unless_late, message_way};
 ghost use Rattle.run_drawing.specs.Columns.{point};
-ghost use Rattle.run_drawing.specs.Scenes.{ArePast, IsScene, basis_of, skipped_at};
+ghost use Rattle.run_drawing.specs.inside.Scenes.{ArePast, IsScene, basis_of, skipped_at};
 
 use crate::drawing::Points;
 use crate::scene::Scene;
@@ -56,8 +57,8 @@ fn skip(scene: &Scene<'_>, sent: &[u32], from: u32, post: u32) -> u32
     requires scene { IsScene scene.now }
     requires short { length sent.now < 2 ^ 32 }
     ensures from { from ≤ result }
-    ensures taken { (k : ℕ) → from ≤ k → k < result → k < length sent.now → is_open (basis_of scene.now) post (slice_index sent.now k) ≡ false }
-    ensures first { result < length sent.now → is_open (basis_of scene.now) post (slice_index sent.now result) ≡ true }
+    ensures taken { (k : ℕ) → from ≤ k → k < result → k < length sent.now → is_untaken (basis_of scene.now) post (slice_index sent.now k) ≡ false }
+    ensures first { result < length sent.now → is_untaken (basis_of scene.now) post (slice_index sent.now result) ≡ true }
 {
     let mut count = from;
     while (count as usize) < sent.len() && !scene.is_open(post, sent[count as usize]) {
@@ -101,7 +102,7 @@ impl Skipped {
     ) -> Result<Option<u32>, AllocError>
         requires scene { IsScene scene.now }
         requires past { ArePast (basis_of scene.now) post self.old }
-        ensures first { IfOk result (λ first. first ≡ first_open (basis_of scene.now) post (positions (goes way.now) 0 scene.now.causes.events)) }
+        ensures first { IfOk result (λ first. first ≡ first_untaken (basis_of scene.now) post (positions (goes_way way.now) 0 scene.now.causes.events)) }
         ensures past { OnOk result (ArePast (basis_of scene.now) post self.new) }
     {
         let sent = scene.sends.get(way);
@@ -122,7 +123,7 @@ impl Skipped {
     ) -> Result<(), AllocError>
         requires scene { IsScene scene.now }
         requires past { ArePast (basis_of scene.now) posted.now.place self.old }
-        ensures choice { OnOk result (found.new ≡ found.old ++ choice_beside (basis_of scene.now) posted.now.rank posted.now.comm posted.now.tag posted.now.place at took sender) }
+        ensures choice { OnOk result (found.new ≡ found.old ++ choice_beside (basis_of scene.now) posted.now at took sender) }
         ensures past { OnOk result (ArePast (basis_of scene.now) posted.now.place self.new) }
     {
         if sender == took {
@@ -151,7 +152,7 @@ impl Skipped {
     ) -> Result<Points, AllocError>
         requires scene { IsScene scene.now }
         requires past { ArePast (basis_of scene.now) posted.now.place self.old }
-        ensures choices { IfOk result (λ found. found ≡ choices (basis_of scene.now) posted.now.rank posted.now.comm posted.now.tag posted.now.place at took) }
+        ensures choices { IfOk result (λ found. found ≡ choices (basis_of scene.now) posted.now at took) }
         ensures past { OnOk result (ArePast (basis_of scene.now) posted.now.place self.new) }
     {
         let mut found = Points::new(alloc);
@@ -175,5 +176,6 @@ fn push_unless_late(
     if scene.causes.is_before(at, send) {
         return Ok(());
     }
-    found.push(scene.point(send))
+    found.push(scene.point(send))?;
+    Ok(())
 }

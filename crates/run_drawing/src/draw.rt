@@ -3,14 +3,14 @@ ghost use Rattle.std.specs.Prelude.{◌≡◌, ◌<◌, ◌++◌, ◌∷◌, ◌
 ghost use Rattle.std.specs.List.{list_any};
 ghost use Rattle.mpi_call.specs.declared.reply.Item.{Item as ItemSpec};
 ghost use Rattle.causes.specs.Clocks.{AreOfRanks};
-ghost use Rattle.causes.specs.Positions.{is_of, positions, start_position};
+ghost use Rattle.causes.specs.Positions.{is_event_of, positions, start_position};
 ghost use Rattle.group_plan.specs.Plans.{group_of, number_of_ranks};
-ghost use Rattle.msg_races.specs.Listing.{joined};
-ghost use Rattle.run_drawing.specs.Drawings.{IsDrawing, arrow_from, collective_at, collective_by, collective_of, groups_of, is_wildcard_at, latest_of, mark_at, marks_from, marks_of, of_events, of_starts, probe_at, probe_by, takes_wildcard, takes_wildcard_in, unreceived_at, unreceived_by, unreceived_of};
-ghost use Rattle.run_drawing.specs.Scenes.{IsScene, basis_of};
+ghost use Rattle.msg_races.specs.Listing.{lists_below};
+ghost use Rattle.run_drawing.specs.Drawings.{IsDrawing, arrow_from, collective_at, collective_by, collective_of, rank_groups, is_wildcard_at, latest_of, mark_at, marks_from, drawn_marks, of_events, of_starts, probe_at, probe_by, takes_wildcard, takes_wildcard_in, unreceived_at, unreceived_by, unreceived_of};
+ghost use Rattle.run_drawing.specs.inside.Scenes.{IsScene, basis_of};
 
-use crate::drawing::{Arrow, Collective, Drawing, Mark, Point, Unreceived};
-use crate::links::Link;
+use crate::drawing::{Arrow, Drawing, DrawnCollective, DrawnMark, Point, Unreceived};
+use crate::links::CompletedStart;
 use crate::receives::all_receives;
 use crate::scene::{Scene, see};
 use group_plan::plan::Plan;
@@ -41,7 +41,7 @@ pub fn draw(alloc: Global, plan: &Plan, history: &History) -> Result<Drawing, Al
 
 /// The group of each rank.
 fn groups_of(alloc: Global, plan: &Plan) -> Result<Ranks, AllocError>
-    ensures { IfOk result (λ groups. groups ≡ groups_of plan.now) }
+    ensures { IfOk result (λ groups. groups ≡ rank_groups plan.now) }
 {
     let mut groups = Ranks::new(alloc);
     for rank in 0..plan.n() {
@@ -51,9 +51,9 @@ fn groups_of(alloc: Global, plan: &Plan) -> Result<Ranks, AllocError>
 }
 
 /// The marks of the ranks below n.
-fn all_marks(alloc: Global, n: u8, scene: &Scene<'_>) -> Result<Vec<Mark>, AllocError>
+fn all_marks(alloc: Global, n: u8, scene: &Scene<'_>) -> Result<Vec<DrawnMark>, AllocError>
     requires { IsScene scene.now }
-    ensures { IfOk result (λ marks. marks.items ≡ joined (marks_of (basis_of scene.now)) n) }
+    ensures { IfOk result (λ marks. marks.items ≡ lists_below (drawn_marks (basis_of scene.now)) n) }
 {
     let mut marks = Vec::new(alloc);
     for rank in 0..n {
@@ -63,9 +63,9 @@ fn all_marks(alloc: Global, n: u8, scene: &Scene<'_>) -> Result<Vec<Mark>, Alloc
 }
 
 /// A mark for each event of a rank.
-fn push_marks(marks: &mut Vec<Mark>, scene: &Scene<'_>, rank: u8) -> Result<(), AllocError>
+fn push_marks(marks: &mut Vec<DrawnMark>, scene: &Scene<'_>, rank: u8) -> Result<(), AllocError>
     requires { IsScene scene.now }
-    ensures { OnOk result (marks.new.items ≡ marks.old.items ++ marks_of (basis_of scene.now) rank) }
+    ensures { OnOk result (marks.new.items ≡ marks.old.items ++ drawn_marks (basis_of scene.now) rank) }
 {
     let mut number = 0;
     let mut rest = scene.causes.own_events(rank);
@@ -78,11 +78,11 @@ fn push_marks(marks: &mut Vec<Mark>, scene: &Scene<'_>, rank: u8) -> Result<(), 
 }
 
 /// The mark of the event at a position.
-fn mark_at(scene: &Scene<'_>, rank: u8, number: u32, place: u32) -> Mark
+fn mark_at(scene: &Scene<'_>, rank: u8, number: u32, place: u32) -> DrawnMark
     requires { IsScene scene.now }
     ensures { result ≡ mark_at (basis_of scene.now) rank number place }
 {
-    Mark {
+    DrawnMark {
         rank,
         number,
         column: scene.column(place),
@@ -130,9 +130,13 @@ fn has_wildcard(scene: &Scene<'_>, rank: u8, starts: &[u32], items: &[Item]) -> 
 }
 
 /// The collectives of the ranks below n that were completed.
-fn all_collectives(alloc: Global, n: u8, scene: &Scene<'_>) -> Result<Vec<Collective>, AllocError>
+fn all_collectives(
+    alloc: Global,
+    n: u8,
+    scene: &Scene<'_>,
+) -> Result<Vec<DrawnCollective>, AllocError>
     requires { IsScene scene.now }
-    ensures { IfOk result (λ found. found.items ≡ joined (of_starts (collective_at (basis_of scene.now)) scene.now.causes.events) n) }
+    ensures { IfOk result (λ found. found.items ≡ lists_below (of_starts (collective_at (basis_of scene.now)) scene.now.causes.events) n) }
 {
     let mut found = Vec::new(alloc);
     for rank in 0..n {
@@ -143,7 +147,7 @@ fn all_collectives(alloc: Global, n: u8, scene: &Scene<'_>) -> Result<Vec<Collec
 
 /// The collectives at these positions.
 fn push_collectives(
-    found: &mut Vec<Collective>,
+    found: &mut Vec<DrawnCollective>,
     scene: &Scene<'_>,
     places: &[u32],
 ) -> Result<(), AllocError>
@@ -160,7 +164,7 @@ fn push_collectives(
 
 /// The collective that was entered at a position, if it was completed.
 fn push_collective(
-    found: &mut Vec<Collective>,
+    found: &mut Vec<DrawnCollective>,
     scene: &Scene<'_>,
     place: u32,
 ) -> Result<(), AllocError>
@@ -174,7 +178,7 @@ fn push_collective(
 }
 
 fn push_collective_by(
-    found: &mut Vec<Collective>,
+    found: &mut Vec<DrawnCollective>,
     scene: &Scene<'_>,
     place: u32,
     rank: u8,
@@ -193,16 +197,16 @@ fn push_collective_by(
 }
 
 fn push_collective_of(
-    found: &mut Vec<Collective>,
+    found: &mut Vec<DrawnCollective>,
     scene: &Scene<'_>,
     place: u32,
     rank: u8,
-    link: Link,
+    link: CompletedStart,
 ) -> Result<(), AllocError>
     requires { IsScene scene.now }
     ensures { OnOk result (found.new.items ≡ found.old.items ++ collective_of (basis_of scene.now) place rank (Some link)) }
 {
-    found.push(Collective {
+    found.push(DrawnCollective {
         rank,
         from: scene.column(place),
         to: scene.column(link.at),
@@ -228,7 +232,7 @@ fn latest_of(scene: &Scene<'_>, own: u32, cause: Option<u32>) -> Option<Point>
 /// The probes of the ranks below n that found a message.
 fn all_probes(alloc: Global, n: u8, scene: &Scene<'_>) -> Result<Vec<Arrow>, AllocError>
     requires { IsScene scene.now }
-    ensures { IfOk result (λ found. found.items ≡ joined (of_events (probe_at (basis_of scene.now)) scene.now.causes.events) n) }
+    ensures { IfOk result (λ found. found.items ≡ lists_below (of_events (probe_at (basis_of scene.now)) scene.now.causes.events) n) }
 {
     let mut found = Vec::new(alloc);
     for rank in 0..n {
@@ -299,7 +303,7 @@ fn push_arrow(
 /// The Sends of the ranks below n whose messages nobody took.
 fn all_unreceived(alloc: Global, n: u8, scene: &Scene<'_>) -> Result<Vec<Unreceived>, AllocError>
     requires { IsScene scene.now }
-    ensures { IfOk result (λ found. found.items ≡ joined (of_starts (unreceived_at (basis_of scene.now)) scene.now.causes.events) n) }
+    ensures { IfOk result (λ found. found.items ≡ lists_below (of_starts (unreceived_at (basis_of scene.now)) scene.now.causes.events) n) }
 {
     let mut found = Vec::new(alloc);
     for rank in 0..n {

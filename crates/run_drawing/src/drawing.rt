@@ -1,20 +1,20 @@
 //! The drawing of a run.
-ghost use Rattle.std.specs.Prelude.{◌≡◌, ◌≤◌, ◌^◌, ◌++◌, ◌∷◌, [], OnOk, length};
+ghost use Rattle.std.specs.Prelude.{◌≡◌, ◌≤◌, ◌^◌, length};
 
+use listed::Listed;
 use mpi_call::lists::Ranks;
-use std::alloc::{AllocError, Global};
 use std::marker::Model;
 
 /// Where an event stands: the lane of its rank, and a column.
-#[derive(Clone, Copy, Debug)]
+#[derive(Clone, Copy)]
 pub struct Point {
     pub rank: u8,
     pub column: u32,
 }
 
 /// A call of a rank.
-#[derive(Clone, Copy, Debug)]
-pub struct Mark {
+#[derive(Clone, Copy)]
+pub struct DrawnMark {
     pub rank: u8,
     /// The number of the call among those of its rank.
     pub number: u32,
@@ -24,56 +24,18 @@ pub struct Mark {
 }
 
 /// An arrow from one event to another.
-#[derive(Clone, Copy, Debug)]
+#[derive(Clone, Copy)]
 pub struct Arrow {
     pub from: Point,
     pub to: Point,
 }
 
 /// Points, which contracts see as a list.
-#[derive(Drop)]
-pub struct Points {
-    values: Vec<Point>,
-}
-
-impl Model for Points {
-    ghost use Rattle.std.specs.Prelude.{List};
-    ghost use Rattle.run_drawing.specs.declared.drawing.Point.{Point};
-
-    ghost Value = { List Point };
-
-    ghost view = { λ s. s.values.items };
-}
-
-impl Points {
-    /// No points.
-    pub fn new(alloc: Global) -> Self
-        ensures { result ≡ [] }
-    {
-        Points {
-            values: Vec::new(alloc),
-        }
-    }
-
-    /// Adds a point at the end.
-    pub fn push(&mut self, point: Point) -> Result<(), AllocError>
-        ensures { OnOk result (self.new ≡ self.old ++ point ∷ []) }
-    {
-        self.values.push(point)?;
-        Ok(())
-    }
-
-    /// The points in order.
-    pub fn as_slice(&self) -> &[Point]
-        ensures { result.now ≡ self.now }
-    {
-        &self.values
-    }
-}
+pub type Points = Listed<Point>;
 
 /// The message that a receive took.
 #[derive(Drop)]
-pub struct Message {
+pub struct DrawnMessage {
     /// Its Send.
     pub sender: Point,
     /// The Sends whose messages the receive could have taken instead, the first of each other sender.
@@ -82,19 +44,19 @@ pub struct Message {
 
 /// A receive, from its Post to its completion; one that was not completed ends at its rank's last call.
 #[derive(Drop)]
-pub struct Receive {
+pub struct DrawnReceive {
     pub rank: u8,
     pub from: u32,
     pub to: u32,
     /// Whether it is from any source.
     pub is_wild: bool,
     /// The message that it took, where it was completed.
-    pub message: Option<Message>,
+    pub message: Option<DrawnMessage>,
 }
 
 /// A collective of a rank, from its Enter to its completion.
-#[derive(Clone, Copy, Debug)]
-pub struct Collective {
+#[derive(Clone, Copy)]
+pub struct DrawnCollective {
     pub rank: u8,
     pub from: u32,
     pub to: u32,
@@ -103,7 +65,7 @@ pub struct Collective {
 }
 
 /// A Send whose message nobody took.
-#[derive(Clone, Copy, Debug)]
+#[derive(Clone, Copy)]
 pub struct Unreceived {
     pub rank: u8,
     pub column: u32,
@@ -115,9 +77,9 @@ pub struct Unreceived {
 pub struct Drawing {
     pub(crate) groups: Ranks,
     pub(crate) columns: u64,
-    pub(crate) marks: Vec<Mark>,
-    pub(crate) receives: Vec<Receive>,
-    pub(crate) collectives: Vec<Collective>,
+    pub(crate) marks: Vec<DrawnMark>,
+    pub(crate) receives: Vec<DrawnReceive>,
+    pub(crate) collectives: Vec<DrawnCollective>,
     pub(crate) probes: Vec<Arrow>,
     pub(crate) unreceived: Vec<Unreceived>,
 }
@@ -157,21 +119,21 @@ impl Drawing {
     }
 
     /// A mark for each call.
-    pub fn marks(&self) -> &[Mark]
+    pub fn marks(&self) -> &[DrawnMark]
         ensures { result.now ≡ self.now.marks }
     {
         &self.marks
     }
 
     /// The receives, but for those from the null process.
-    pub fn receives(&self) -> &[Receive]
+    pub fn receives(&self) -> &[DrawnReceive]
         ensures { result.now ≡ self.now.receives }
     {
         &self.receives
     }
 
     /// The collectives that were completed.
-    pub fn collectives(&self) -> &[Collective]
+    pub fn collectives(&self) -> &[DrawnCollective]
         ensures { result.now ≡ self.now.collectives }
     {
         &self.collectives

@@ -2,10 +2,10 @@
 ghost use Rattle.std.specs.Prelude.{◌≡◌, ◌<◌, ◌^◌, ◌==◌, ◌++◌, ◌∷◌, [], ℕ, None, OnOk, Some, if◌then◌else◌, length, nat_eq, slice_index};
 ghost use Rattle.std.specs.Map.{lookup};
 ghost use Rattle.causes.specs.Beside.{AreTables};
-ghost use Rattle.causes.specs.Positions.{is_there, start_position};
+ghost use Rattle.causes.specs.Positions.{is_at_position, start_position};
 ghost use Rattle.causes.specs.Steps.{completed_from};
 ghost use Rattle.run_drawing.specs.Links.{completion_in, deeper, deepest, link_by, links_by, links_in, taker_in, with_depth};
-ghost use Rattle.run_drawing.specs.Scenes.{AreIndexed, or_link};
+ghost use Rattle.run_drawing.specs.inside.Scenes.{AreIndexed, or_link};
 
 use causes::positions::Positions;
 use causes::rests::push_completed;
@@ -18,7 +18,7 @@ use std::alloc::{AllocError, Global};
 
 /// A start that was completed.
 #[derive(Clone, Copy)]
-pub struct Link {
+pub struct CompletedStart {
     /// The position of the start.
     pub start: u32,
     /// The position of the event that completed it.
@@ -30,11 +30,11 @@ pub struct Link {
 /// The links of a history, in its order.
 #[derive(Drop)]
 pub struct Links {
-    pub list: Vec<Link>,
+    pub list: Vec<CompletedStart>,
     /// The first of each start.
-    pub by_start: IndexMap<u32, Link>,
+    pub by_start: IndexMap<u32, CompletedStart>,
     /// The first of each cause.
-    pub by_cause: IndexMap<u32, Link>,
+    pub by_cause: IndexMap<u32, CompletedStart>,
 }
 
 /// The depth at a position; past the depths 0.
@@ -84,7 +84,11 @@ pub fn deepest(depths: &[u32], places: &[u32]) -> Option<u32>
 }
 
 /// Keeps a link for a key that has none.
-fn keep(map: &mut IndexMap<u32, Link>, key: u32, link: Link) -> Result<(), AllocError>
+fn keep(
+    map: &mut IndexMap<u32, CompletedStart>,
+    key: u32,
+    link: CompletedStart,
+) -> Result<(), AllocError>
     ensures { OnOk result ((p : ℕ) → lookup (nat_eq p) map.new.entries ≡ or_link (lookup (nat_eq p) map.old.entries) (if key == p then Some link else None)) }
 {
     if map.get(&key).is_some() {
@@ -95,8 +99,12 @@ fn keep(map: &mut IndexMap<u32, Link>, key: u32, link: Link) -> Result<(), Alloc
 }
 
 /// Keeps a link for a key, where there is one.
-fn keep_some(map: &mut IndexMap<u32, Link>, key: Option<u32>, link: Link) -> Result<(), AllocError>
-    ensures { OnOk result ((p : ℕ) → lookup (nat_eq p) map.new.entries ≡ or_link (lookup (nat_eq p) map.old.entries) (if is_there key p then Some link else None)) }
+fn keep_some(
+    map: &mut IndexMap<u32, CompletedStart>,
+    key: Option<u32>,
+    link: CompletedStart,
+) -> Result<(), AllocError>
+    ensures { OnOk result ((p : ℕ) → lookup (nat_eq p) map.new.entries ≡ or_link (lookup (nat_eq p) map.old.entries) (if is_at_position key p then Some link else None)) }
 {
     match key {
         Some(key) => keep(map, key, link),
@@ -118,7 +126,7 @@ impl Links {
     }
 
     /// The completion of the start at a position.
-    pub fn completion(&self, start: u32) -> Option<Link>
+    pub fn completion(&self, start: u32) -> Option<CompletedStart>
         requires { AreIndexed self.now }
         ensures { result ≡ completion_in self.now.list.items start }
     {
@@ -126,7 +134,7 @@ impl Links {
     }
 
     /// The completion that had to wait for the event at a position.
-    pub fn taker(&self, cause: u32) -> Option<Link>
+    pub fn taker(&self, cause: u32) -> Option<CompletedStart>
         requires { AreIndexed self.now }
         ensures { result ≡ taker_in self.now.list.items cause }
     {
@@ -134,7 +142,7 @@ impl Links {
     }
 
     /// Adds a link at the end.
-    fn add(&mut self, link: Link) -> Result<(), AllocError>
+    fn add(&mut self, link: CompletedStart) -> Result<(), AllocError>
         requires { AreIndexed self.old }
         ensures indexed { OnOk result (AreIndexed self.new) }
         ensures list { OnOk result (self.new.list.items ≡ self.old.list.items ++ link ∷ []) }
@@ -157,7 +165,7 @@ impl Links {
         ensures list { OnOk result (self.new.list.items ≡ self.old.list.items ++ link_by start at cause) }
     {
         match start {
-            Some(start) => self.add(Link { start, at, cause }),
+            Some(start) => self.add(CompletedStart { start, at, cause }),
             None => Ok(()),
         }
     }

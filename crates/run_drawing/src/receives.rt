@@ -2,22 +2,26 @@
 ghost use Rattle.std.specs.Prelude.{◌≡◌, ◌++◌, ◌∷◌, [], IfOk, None, OnOk, Option, Some, flat_map};
 ghost use Rattle.mpi_call.specs.Lists.{Rises};
 ghost use Rattle.causes.specs.Positions.{is_start_of, positions};
-ghost use Rattle.msg_races.specs.Listing.{joined};
-ghost use Rattle.run_drawing.specs.Drawings.{choices_by, end_of, is_any, message_by, message_from, of_starts, receive_at, receive_by, receive_of};
+ghost use Rattle.msg_races.specs.Listing.{lists_below};
+ghost use Rattle.run_drawing.specs.Drawings.{wildcard_choices, bar_end, is_any, completed_message, drawn_message, of_starts, receive_at, receive_by, drawn_receive};
 ghost use Rattle.run_drawing.specs.Links.{completion_in, links};
-ghost use Rattle.run_drawing.specs.Scenes.{ArePast, IsScene, basis_of};
+ghost use Rattle.run_drawing.specs.inside.Scenes.{ArePast, IsScene, basis_of};
 
 use crate::choices::{Posted, Skipped};
-use crate::drawing::{Message, Points, Receive};
-use crate::links::Link;
+use crate::drawing::{DrawnMessage, DrawnReceive, Points};
+use crate::links::CompletedStart;
 use crate::scene::Scene;
 use mpi_call::call::{Call, Source};
 use std::alloc::{AllocError, Global};
 
 /// The receives of the ranks below n.
-pub fn all_receives(alloc: Global, n: u8, scene: &Scene<'_>) -> Result<Vec<Receive>, AllocError>
+pub fn all_receives(
+    alloc: Global,
+    n: u8,
+    scene: &Scene<'_>,
+) -> Result<Vec<DrawnReceive>, AllocError>
     requires { IsScene scene.now }
-    ensures { IfOk result (λ found. found.items ≡ joined (of_starts (receive_at (basis_of scene.now)) scene.now.causes.events) n) }
+    ensures { IfOk result (λ found. found.items ≡ lists_below (of_starts (receive_at (basis_of scene.now)) scene.now.causes.events) n) }
 {
     let mut found = Vec::new(alloc);
     for rank in 0..n {
@@ -28,7 +32,7 @@ pub fn all_receives(alloc: Global, n: u8, scene: &Scene<'_>) -> Result<Vec<Recei
 
 /// The receives of a rank. Each Send that was taken before one is looked at no more for those after it.
 fn push_receives(
-    found: &mut Vec<Receive>,
+    found: &mut Vec<DrawnReceive>,
     alloc: Global,
     scene: &Scene<'_>,
     rank: u8,
@@ -47,7 +51,7 @@ fn push_receives(
 
 /// The receive that was posted at a position.
 fn push_receive(
-    found: &mut Vec<Receive>,
+    found: &mut Vec<DrawnReceive>,
     alloc: Global,
     scene: &Scene<'_>,
     skipped: &mut Skipped,
@@ -73,7 +77,7 @@ fn push_receive(
 }
 
 fn push_receive_by(
-    found: &mut Vec<Receive>,
+    found: &mut Vec<DrawnReceive>,
     alloc: Global,
     scene: &Scene<'_>,
     skipped: &mut Skipped,
@@ -115,15 +119,15 @@ fn receive_of(
     scene: &Scene<'_>,
     skipped: &mut Skipped,
     posted: &Posted,
-) -> Result<Receive, AllocError>
+) -> Result<DrawnReceive, AllocError>
     requires scene { IsScene scene.now }
     requires past { ArePast (basis_of scene.now) posted.now.place skipped.old }
-    ensures receive { IfOk result (λ receive. receive ≡ receive_of (basis_of scene.now) posted.now.place posted.now.rank posted.now.comm posted.now.source posted.now.tag (completion_in (links (basis_of scene.now)) posted.now.place)) }
+    ensures receive { IfOk result (λ receive. receive ≡ drawn_receive (basis_of scene.now) posted.now (completion_in (links (basis_of scene.now)) posted.now.place)) }
     ensures past { OnOk result (ArePast (basis_of scene.now) posted.now.place skipped.new) }
 {
     let completion = scene.completion(posted.place);
     let message = message_by(alloc, scene, skipped, posted, completion)?;
-    Ok(Receive {
+    Ok(DrawnReceive {
         rank: posted.rank,
         from: scene.column(posted.place),
         to: end_of(scene, posted.rank, completion),
@@ -139,9 +143,9 @@ fn is_any(source: &Source) -> bool
 }
 
 /// The column where the bar of a rank's receive ends.
-fn end_of(scene: &Scene<'_>, rank: u8, completion: Option<Link>) -> u32
+fn end_of(scene: &Scene<'_>, rank: u8, completion: Option<CompletedStart>) -> u32
     requires { IsScene scene.now }
-    ensures { result ≡ end_of (basis_of scene.now) rank completion }
+    ensures { result ≡ bar_end (basis_of scene.now) rank completion }
 {
     match completion {
         Some(link) => scene.column(link.at),
@@ -155,11 +159,11 @@ fn message_by(
     scene: &Scene<'_>,
     skipped: &mut Skipped,
     posted: &Posted,
-    completion: Option<Link>,
-) -> Result<Option<Message>, AllocError>
+    completion: Option<CompletedStart>,
+) -> Result<Option<DrawnMessage>, AllocError>
     requires scene { IsScene scene.now }
     requires past { ArePast (basis_of scene.now) posted.now.place skipped.old }
-    ensures message { IfOk result (λ message. message ≡ message_by (basis_of scene.now) posted.now.rank posted.now.comm posted.now.source posted.now.tag posted.now.place completion) }
+    ensures message { IfOk result (λ message. message ≡ completed_message (basis_of scene.now) posted.now completion) }
     ensures past { OnOk result (ArePast (basis_of scene.now) posted.now.place skipped.new) }
 {
     let Some(link) = completion else {
@@ -169,7 +173,7 @@ fn message_by(
         return Ok(None);
     };
     let choices = choices_by(alloc, scene, skipped, posted, link.at, scene.rank_at(send))?;
-    Ok(Some(Message {
+    Ok(Some(DrawnMessage {
         sender: scene.point(send),
         choices,
     }))
@@ -186,7 +190,7 @@ fn choices_by(
 ) -> Result<Points, AllocError>
     requires scene { IsScene scene.now }
     requires past { ArePast (basis_of scene.now) posted.now.place skipped.old }
-    ensures choices { IfOk result (λ choices. choices ≡ choices_by (basis_of scene.now) posted.now.rank posted.now.comm posted.now.source posted.now.tag posted.now.place at took) }
+    ensures choices { IfOk result (λ choices. choices ≡ wildcard_choices (basis_of scene.now) posted.now at took) }
     ensures past { OnOk result (ArePast (basis_of scene.now) posted.now.place skipped.new) }
 {
     match posted.source {

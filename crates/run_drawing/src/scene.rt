@@ -1,18 +1,21 @@
 //! What is looked up in a history while it is drawn.
 ghost use Rattle.std.specs.Prelude.{◌≡◌, ◌<◌, ◌≤◌, ◌+◌, ◌^◌, [], ℕ, suc, None, Some, IfOk, Option, length, max, option_map, slice_get, slice_index, take, if◌then◌else◌};
 ghost use Rattle.std.specs.List.{list_any};
+ghost use Rattle.mpi_call.specs.Calls.{is_wildcard};
 ghost use Rattle.causes.specs.Clocks.{AreOfRanks};
 ghost use Rattle.causes.specs.Positions.{start_position};
 ghost use Rattle.msg_races.specs.Ways.{AreSends};
 ghost use Rattle.run_model.specs.declared.event.Event.{Event as EventSpec};
-ghost use Rattle.run_drawing.specs.Choices.{is_open};
-ghost use Rattle.run_drawing.specs.Columns.{behind_all, behind_first, column, column_behind, column_by, columns_of, point, rank_in, stops};
-ghost use Rattle.run_drawing.specs.Drawings.{column_in, is_wildcard, is_wildcard_at, is_wildcard_in};
-ghost use Rattle.run_drawing.specs.Links.{cause_at, completion_in, last_of, links, taker_in};
-ghost use Rattle.run_drawing.specs.Scenes.{IsScene, basis_of};
+ghost use Rattle.run_model.specs.Due.{stops};
+ghost use Rattle.run_model.specs.Views.{rank_of_event};
+ghost use Rattle.run_drawing.specs.Choices.{is_untaken};
+ghost use Rattle.run_drawing.specs.Columns.{behind_all, behind_first, column, column_behind, column_by, columns_of, point};
+ghost use Rattle.run_drawing.specs.Drawings.{column_in, is_wildcard_at, is_wildcard_in};
+ghost use Rattle.run_drawing.specs.Links.{cause_at, completion_in, last_position, links, taker_in};
+ghost use Rattle.run_drawing.specs.inside.Scenes.{IsScene, basis_of};
 
 use crate::drawing::Point;
-use crate::links::{Link, Links, depth_at};
+use crate::links::{CompletedStart, Links, depth_at};
 use crate::tracing::{Tracing, trace};
 use causes::causes::Causes;
 use mpi_call::call::{Call, Source};
@@ -146,7 +149,7 @@ impl<'a> Scene<'a> {
 
     /// The rank of the event at a position.
     pub fn rank_at(&self, place: u32) -> u8
-        ensures { result ≡ rank_in (slice_get self.now.causes.events place) }
+        ensures { result ≡ rank_of_event (slice_get self.now.causes.events place) }
     {
         match self.event(place) {
             Some(event) => event.rank,
@@ -166,7 +169,7 @@ impl<'a> Scene<'a> {
     }
 
     /// The completion of the start at a position.
-    pub fn completion(&self, place: u32) -> Option<Link>
+    pub fn completion(&self, place: u32) -> Option<CompletedStart>
         requires { IsScene self.now }
         ensures { result ≡ completion_in (links (basis_of self.now)) place }
     {
@@ -174,7 +177,7 @@ impl<'a> Scene<'a> {
     }
 
     /// The completion that had to wait for the event at a position.
-    pub fn taker(&self, place: u32) -> Option<Link>
+    pub fn taker(&self, place: u32) -> Option<CompletedStart>
         requires { IsScene self.now }
         ensures { result ≡ taker_in (links (basis_of self.now)) place }
     {
@@ -184,7 +187,7 @@ impl<'a> Scene<'a> {
     /// Whether the message of a Send was not taken before a position.
     pub fn is_open(&self, place: u32, send: u32) -> bool
         requires { IsScene self.now }
-        ensures { result ≡ is_open (basis_of self.now) place send }
+        ensures { result ≡ is_untaken (basis_of self.now) place send }
     {
         match self.taker(send) {
             Some(link) => link.at >= place,
@@ -203,7 +206,7 @@ impl<'a> Scene<'a> {
     /// The column of a rank's last event; 0 where it has none.
     pub fn last_column(&self, rank: u8) -> u32
         requires { IsScene self.now }
-        ensures { result ≡ column_in (basis_of self.now) (last_of self.now.causes.events rank) }
+        ensures { result ≡ column_in (basis_of self.now) (last_position self.now.causes.events rank) }
     {
         match self.causes.own_events(rank).last() {
             Some(place) => self.column(*place),

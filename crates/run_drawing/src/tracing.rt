@@ -2,10 +2,10 @@
 ghost use Rattle.std.specs.Prelude.{◌≡◌, ◌<◌, ◌≤◌, ◌+◌, ◌-◌, ◌^◌, ℕ, suc, zero, IfOk, OnOk, Option, Some, None, length, slice_get, slice_index};
 ghost use Rattle.causes.specs.Beside.{AreTables};
 ghost use Rattle.causes.specs.Clocks.{AreOfRanks};
-ghost use Rattle.causes.specs.Positions.{is_of, positions};
+ghost use Rattle.causes.specs.Positions.{is_event_of, positions};
 ghost use Rattle.causes.specs.Steps.{rests_on};
-ghost use Rattle.run_drawing.specs.Links.{deeper, deepest, depth_after, last_of};
-ghost use Rattle.run_drawing.specs.Scenes.{IsTraced};
+ghost use Rattle.run_drawing.specs.Links.{deeper, deepest, depth_after, last_position};
+ghost use Rattle.run_drawing.specs.inside.Scenes.{IsTraced};
 
 use crate::links::{Links, deeper, deepest, depth_at};
 use causes::key::events_key;
@@ -88,7 +88,7 @@ fn cause_of(
 fn depth_of(before: &[Event], tables: &Tables, depths: &[u32], rank: u8, cause: Option<u32>) -> u32
     requires tables { AreTables before.now tables.now }
     requires few { (p : ℕ) → slice_index depths.now p + 1 < 2 ^ 32 }
-    ensures { result ≡ depth_after depths.now (deeper depths.now (last_of before.now rank) cause) }
+    ensures { result ≡ depth_after depths.now (deeper depths.now (last_position before.now rank) cause) }
 {
     let last = tables.places.get(&events_key(rank)).last().copied();
     match deeper(depths, last, cause) {

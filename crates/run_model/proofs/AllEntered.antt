@@ -8,7 +8,7 @@ use Rattle.mpi_call.specs.Collectives.{agree, colour_of, is_member, is_uncoloure
 use Rattle.mpi_call.proofs.MemberLemmas.{at_place_of, place_of-within}
 use Rattle.mpi_call.proofs.NeedsLemmas.{needs-coloured}
 use Rattle.run_model.specs.declared.event.Event.{Event}
-use Rattle.run_model.specs.Communicators.{Entered, count_on, enter_at, instance_of, is_on, known_first, known_in, members_in, or_none}
+use Rattle.run_model.specs.Communicators.{Entered, count_on, enter_at, instance_of, is_on, known_first, known_in, members_for_rank, or_none}
 use Rattle.run_model.specs.Inputs.{gather, push_ints, with_ints}
 use Rattle.run_model.specs.Numbers.{Origin, communicators_of, entered_by_all, made_at, origins_from}
 use Rattle.run_model.specs.Views.{Next, View, is_start, starts_of, view_of}
@@ -95,7 +95,7 @@ all_made n before same listed me k enter inputs at mk col gathered =
     let mine = own_at C 0 (known_first n C) (V me) k enter at (on_own enter (makes_enter enter mk)) in
     let join = same.joins me C I mine.0 mine.1 in
     let known : known_in n (V me) C ≡ Some join.members = members_kept C 0 (known_first n C) (V me) I mine.0 join.members mine.1 join.known in
-    let members : members_in n (V me) C ≡ join.members = ap or_none known in
+    let members : members_for_rank n (V me) C ≡ join.members = ap or_none known in
     let F : List ℕ → Type 0 = λ l. gather (needs enter l me) find l ≡ Ok inputs in
     let g : gather (needs enter join.members me) find join.members ≡ Ok inputs = subst F members gathered in
     let everyone = gather-needed (needs enter join.members me) (λ x. true) find join.members (λ x. needs-coloured enter join.members me x mk col) in
@@ -107,17 +107,17 @@ all_made n before same listed me k enter inputs at mk col gathered =
 
 made_is : (n : ℕ) (before : List Event) (event : Event) (comm instance : ℕ) (members : List ℕ) (inputs : List (List ℤ))
     → is_start (event.call, event.reply) ≡ true → comm_of event.call ≡ comm → instance ≡ count_on comm (starts_of (view_of before event.rank))
-    → members_in n (view_of before event.rank) comm ≡ members
+    → members_for_rank n (view_of before event.rank) comm ≡ members
     → entered_by_all n (view_of (before ++ event ∷ [])) comm instance members ≡ Ok inputs
     → made_at n before event ≡ origins_from (Ok inputs) instance event.call
 made_is n before event comm instance members inputs start on at mem all =
     let own : View = view_of before event.rank in
     let W : ℕ → View = view_of (before ++ event ∷ []) in
     let made : ℕ → ℕ → List ℕ → List Origin = λ c i l. origins_from (entered_by_all n W c i l) i event.call in
-    let opened : made_at n before event ≡ made (comm_of event.call) (count_on (comm_of event.call) (starts_of own)) (members_in n own (comm_of event.call)) = rw start in
+    let opened : made_at n before event ≡ made (comm_of event.call) (count_on (comm_of event.call) (starts_of own)) (members_for_rank n own (comm_of event.call)) = rw start in
     opened
-    ∙ (ap (λ c. made c (count_on c (starts_of own)) (members_in n own c)) on
-    ∙ (ap (λ i. made comm i (members_in n own comm)) (sym at)
+    ∙ (ap (λ c. made c (count_on c (starts_of own)) (members_for_rank n own c)) on
+    ∙ (ap (λ i. made comm i (members_for_rank n own comm)) (sym at)
     ∙ (ap (made comm instance) mem
     ∙ ap (λ r. origins_from r instance event.call) all)))
 

@@ -15,7 +15,7 @@ Along-keeps S P keeps before (first ∷ events) holds all =
     let rest = Along-keeps S P keeps (before ++ first ∷ []) events (keeps before first holds all.0) all.1 in
     rw append_assoc at rest
 
--- the steps of a beginning, and those behind it
+-- the steps of a prefix, and those behind it
 pub Along-front : {E : Type 0} (S : List E → E → Type 0) (before xs ys : List E) → Along S before (xs ++ ys) → Along S before xs
 Along-front S before [] ys all = tt
 Along-front S before (x ∷ xs) ys all = (all.0, Along-front S (before ++ x ∷ []) xs ys all.1)

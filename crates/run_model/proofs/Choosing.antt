@@ -3,7 +3,7 @@ use Rattle.std.proofs.Common.{◌≡◌, ◌≤◌, ◌<◌, ◌+◌, ℕ, zero,
 use Rattle.std.proofs.lemmas.Bool.{and_parts, cases_order}
 use Rattle.mpi_call.specs.declared.call.Call.{Call}
 use Rattle.run_model.specs.declared.event.Event.{Event}
-use Rattle.run_model.specs.Choice.{choice, is_open, least, suits, suits_some}
+use Rattle.run_model.specs.Choice.{choice, is_open_match, least_passing, suits, suits_some}
 use Rattle.run_model.specs.Pairs.{Name, name_at, named, pairs_of, partner_of}
 use Rattle.run_model.proofs.Positions.{name_at-below}
 use Rattle.run_model.proofs.Views.{option_cases, test_cases}
@@ -14,7 +14,7 @@ record IsLeast (test : ℕ → Bool) (from count at : ℕ) : Type 0 where
   below : at < from + count
   first : (other : ℕ) → from ≤ other → other < at → test other ≡ false
 
-least_is : (test : ℕ → Bool) (from count at : ℕ) → least test from count ≡ Some at → IsLeast test from count at
+least_is : (test : ℕ → Bool) (from count at : ℕ) → least_passing test from count ≡ Some at → IsLeast test from count at
 least_is test from zero at h = absurd (cc)
 least_is test from (suc count) at h =
     elim (test_cases (test from)) [
@@ -38,7 +38,7 @@ least_is test from (suc count) at h =
           }
     ]
 
-least_none : (test : ℕ → Bool) (from count : ℕ) → least test from count ≡ None → (other : ℕ) → from ≤ other → other < from + count → test other ≡ false
+least_none : (test : ℕ → Bool) (from count : ℕ) → least_passing test from count ≡ None → (other : ℕ) → from ≤ other → other < from + count → test other ≡ false
 least_none test from zero h other low high = absurd (omega arith)
 least_none test from (suc count) h other low high =
     elim (test_cases (test from)) [
@@ -59,7 +59,7 @@ pub record IsOpenAt (events : List Event) (rank : ℕ) (call : Call) (at : ℕ) 
   pub suited : suits rank call name.0 start ≡ true
 
 open_parts : (events : List Event) (rank : ℕ) (call : Call) (at : ℕ) (found : Option Name) → name_at events at ≡ found
-    → is_open events rank call found ≡ true → IsOpenAt events rank call at
+    → is_open_match events rank call found ≡ true → IsOpenAt events rank call at
 open_parts events rank call at None there h = absurd (cc)
 open_parts events rank call at (Some name) there h =
     let parts = and_parts (not (is_some (partner_of (pairs_of events) name))) (suits_some rank call name.0 (named events name)) h in
@@ -71,7 +71,7 @@ open_parts events rank call at (Some name) there h =
       | inr none ↦ (let no : false ≡ true = rw none at parts.1 in absurd (cc))
     ]
 
-open_from : (events : List Event) (rank : ℕ) (call : Call) (at : ℕ) → IsOpenAt events rank call at → is_open events rank call (name_at events at) ≡ true
+open_from : (events : List Event) (rank : ℕ) (call : Call) (at : ℕ) → IsOpenAt events rank call at → is_open_match events rank call (name_at events at) ≡ true
 open_from events rank call at o = rw (o.there, o.free, o.made) o.suited
 
 -- the choice, where there is one
@@ -81,7 +81,7 @@ pub record IsChoiceAt (events : List Event) (rank : ℕ) (call : Call) (at : ℕ
 
 pub choice_some : (events : List Event) (rank : ℕ) (call : Call) (at : ℕ) → choice events rank call ≡ Some at → IsChoiceAt events rank call at
 choice_some events rank call at h =
-    let test : ℕ → Bool = λ at. is_open events rank call (name_at events at) in
+    let test : ℕ → Bool = λ at. is_open_match events rank call (name_at events at) in
     let l = least_is test 0 (length events) at h in
     record {
       chosen = open_parts events rank call at (name_at events at) refl l.passes;
@@ -96,7 +96,7 @@ choice_some events rank call at h =
 
 pub choice_none : (events : List Event) (rank : ℕ) (call : Call) → choice events rank call ≡ None → (at : ℕ) → IsOpenAt events rank call at → ⊥
 choice_none events rank call h at o =
-    let test : ℕ → Bool = λ at. is_open events rank call (name_at events at) in
+    let test : ℕ → Bool = λ at. is_open_match events rank call (name_at events at) in
     let below : at < length events = name_at-below events at o.name o.there in
     let no : true ≡ false = sym (open_from events rank call at o) ∙ least_none test 0 (length events) h at (omega arith) (omega arith) in
     cc

@@ -13,7 +13,7 @@ use Rattle.mpi_call.specs.declared.reply.Reply.{Reply}
 use Rattle.mpi_call.specs.declared.reply.Reply.TheVariants.{Done, NotYet, Peeked, Stopped, Took}
 use Rattle.run_model.specs.declared.event.Event.{Event}
 use Rattle.run_model.specs.Chosen.{order_of}
-use Rattle.run_model.specs.Serial.{at_first, attempts, rounds}
+use Rattle.run_model.specs.Serial.{first_stage, attempts, rounds}
 use Rattle.run_model.specs.Views.{Next, replies_in, view_of}
 
 -- programs whose ranks make these calls whatever the replies
@@ -25,7 +25,7 @@ script calls n rank replies = slice_get (calls rank) (length replies)
 
 -- the events of these turns and so many rounds
 abbrev serial : Script → ℕ → List ℕ → ℕ → List Event
-serial calls n turns count = (rounds (script calls) n count (attempts (script calls) n at_first turns)).events
+serial calls n turns count = (rounds (script calls) n count (attempts (script calls) n first_stage turns)).events
 
 abbrev replies_to : ℕ → List Event → List Reply
 replies_to rank events = replies_in (view_of events rank)

@@ -14,14 +14,14 @@ use Rattle.mpi_call.specs.Acceptance.{accepts}
 use Rattle.mpi_call.specs.Calls.{makes}
 use Rattle.mpi_call.specs.Collectives.{is_uncoloured}
 use Rattle.run_model.specs.declared.event.Event.{Event}
-use Rattle.run_model.specs.Allowed.{AreChosen, IsOne, flags_of, holds, true_places}
+use Rattle.run_model.specs.Allowed.{AreChosen, IsOne, flags_of, mode_holds, true_places}
 use Rattle.run_model.specs.Choice.{chosen_places}
 use Rattle.run_model.specs.Chosen.{collected, collected_by, got_of, items_at, message_of}
 use Rattle.run_model.specs.Inputs.{inputs_of, is_gathered}
 use Rattle.run_model.specs.Numbers.{communicators_of, number_among, origin_of, same_origin}
 use Rattle.run_model.specs.Pairs.{IsMatched, Name, named, pairs_of, partner_of, post_accepts}
 use Rattle.run_model.specs.Readiness.{AreGots, IsCollected, IsFrom, IsGot, IsMessage, is_ready}
-use Rattle.run_model.specs.Views.{View, start_at, view_of}
+use Rattle.run_model.specs.Views.{View, moment_at, moment_of, start_at, view_of}
 use Rattle.run_model.proofs.Views.{option_cases, test_cases}
 
 -- what is accepted is a Send
@@ -50,7 +50,7 @@ paired_message before me k comm source tag room matched at h =
       | inl some ↦
           let send : Name = some.0 in
           let F : Option Name → Type 0 = λ o. IsMessage before me k (message_of before o) in
-          subst F (sym some.1) (elim (matched.pair (me, k) send some.1) [
+          subst F (sym some.1) (elim (matched.pairs_accept (me, k) send some.1) [
             | inl takes ↦
                 let calls : Some takes.post_call ≡ Some (Post comm source tag room) = sym takes.post_is ∙ at in
                 let post : takes.post_call ≡ Post comm source tag room = cc in
@@ -71,7 +71,7 @@ pub suc-new : (place : ℕ) → (suc place == 0) ≡ false
 suc-new place = false_from_ne_true (suc place == 0) (λ t. (let e : suc place ≡ 0 = eqb-true (suc place) 0 t in absurd (omega arith)))
 
 from_by : (makes_is uncoloured : Bool) (n : ℕ) (before : List Event) (own : View) (me k : ℕ) (enter : Call) (inputs : List (List ℤ))
-    → IsFrom makes_is uncoloured n me own enter inputs (collected_by makes_is uncoloured n before me own k enter inputs)
+    → IsFrom makes_is uncoloured n me own enter inputs (collected_by makes_is uncoloured (moment_of n before me own) k enter inputs)
 from_by true true n before own me k enter inputs = refl
 from_by true false n before own me k enter inputs =
     let number : ℕ = number_among (communicators_of n before) (origin_of own k enter) in
@@ -81,14 +81,14 @@ from_by false false n before own me k enter inputs = refl
 
 collected_is : (n : ℕ) (before : List Event) (own : View) (me k : ℕ) (enter : Call) (inputs : Result (List (List ℤ)) ℕ)
     → inputs_of n (view_of before) me own k enter ≡ inputs → is_gathered inputs ≡ true
-    → IsCollected n before me own k enter (collected n before me own k enter inputs)
+    → IsCollected (moment_of n before me own) k enter (collected (moment_of n before me own) k enter inputs)
 collected_is n before own me k enter (Ok inputs) e h =
     record { inputs = inputs; gathered = e; given = from_by (makes enter) (is_uncoloured enter) n before own me k enter inputs }
 collected_is n before own me k enter (Err missing) e h = absurd (cc)
 
 pub got_is : (n : ℕ) (before : List Event) (me k : ℕ) (start : Option Call) → IsMatched before → start_at (view_of before me) k ≡ start
-    → is_ready n before me (view_of before me) k start ≡ true
-    → IsGot n before me (view_of before me) k start (got_of n before me (view_of before me) k start)
+    → is_ready (moment_at n before me) k start ≡ true
+    → IsGot (moment_at n before me) k start (got_of (moment_at n before me) k start)
 got_is n before me k None matched at h = absurd (cc)
 got_is n before me k (Some (Send comm dest tag ints sync)) matched at h = refl
 got_is n before me k (Some (Post comm Null tag room)) matched at h = refl
@@ -140,22 +140,22 @@ flag_at ready (k ∷ starts) zero flag h = cc
 flag_at ready (k ∷ starts) (suc i) flag h = flag_at ready starts i flag h
 
 gots_at : (n : ℕ) (before : List Event) (me : ℕ) (starts indices : List ℕ) → IsMatched before
-    → AllOf (λ i. is_ready n before me (view_of before me) (slice_index starts i) (start_at (view_of before me) (slice_index starts i)) ≡ true) indices
-    → AreGots n before me (view_of before me) starts (items_at n before me (view_of before me) starts indices)
+    → AllOf (λ i. is_ready (moment_at n before me) (slice_index starts i) (start_at (view_of before me) (slice_index starts i)) ≡ true) indices
+    → AreGots (moment_at n before me) starts (items_at (moment_at n before me) starts indices)
 gots_at n before me starts [] matched all = tt
 gots_at n before me starts (i ∷ indices) matched all =
     (got_is n before me (slice_index starts i) (start_at (view_of before me) (slice_index starts i)) matched refl all.0, gots_at n before me starts indices matched all.1)
 
 pub gots_are : (n : ℕ) (before : List Event) (me : ℕ) (starts : List ℕ) (mode : TakeMode) → IsMatched before
-    → AreGots n before me (view_of before me) starts (items_at n before me (view_of before me) starts (chosen_places mode (flags_of n before me (view_of before me) starts)))
+    → AreGots (moment_at n before me) starts (items_at (moment_at n before me) starts (chosen_places mode (flags_of (moment_at n before me) starts)))
 gots_are n before me starts mode matched =
     let own : View = view_of before me in
-    let ready : ℕ → Bool = λ k. is_ready n before me own k (start_at own k) in
-    gots_at n before me starts (chosen_places mode (flags_of n before me own starts)) matched
-    (all_chosen (λ i. ready (slice_index starts i) ≡ true) mode (flags_of n before me own starts) (λ i h. flag_at ready starts i true h))
+    let ready : ℕ → Bool = λ k. is_ready (moment_of n before me own) k (start_at own k) in
+    gots_at n before me starts (chosen_places mode (flags_of (moment_of n before me own) starts)) matched
+    (all_chosen (λ i. ready (slice_index starts i) ≡ true) mode (flags_of (moment_of n before me own) starts) (λ i h. flag_at ready starts i true h))
 
 pub items_at-indices : (n : ℕ) (before : List Event) (own : View) (me : ℕ) (starts indices : List ℕ)
-    → map (λ (item : Item). item.index) (items_at n before me own starts indices) ≡ indices
+    → map (λ (item : Item). item.index) (items_at (moment_of n before me own) starts indices) ≡ indices
 items_at-indices n before own me starts [] = refl
 items_at-indices n before own me starts (i ∷ indices) = ap (λ l. i ∷ l) (items_at-indices n before own me starts indices)
 
@@ -173,7 +173,7 @@ least_one flags h =
     let e : 0 + one.0 ≡ one.0 = omega arith in
     (one.0, one.1 ∙ ap (λ (x : ℕ). x ∷ []) e, one.2)
 
-pub chosen_are : (mode : TakeMode) (flags : List Bool) → holds mode flags ≡ true → AreChosen mode flags (chosen_places mode flags)
+pub chosen_are : (mode : TakeMode) (flags : List Bool) → mode_holds mode flags ≡ true → AreChosen mode flags (chosen_places mode flags)
 chosen_are All flags h = refl
 chosen_are TestAll flags h = refl
 chosen_are AnyOne flags h = least_one flags h

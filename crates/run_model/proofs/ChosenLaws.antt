@@ -8,14 +8,14 @@ use Rattle.mpi_call.specs.declared.call.Halt.TheVariants.{Stuck}
 use Rattle.mpi_call.specs.declared.reply.Reply.{Reply}
 use Rattle.mpi_call.specs.declared.reply.Reply.TheVariants.{Stopped}
 use Rattle.run_model.specs.declared.event.Event.{Event}
-use Rattle.run_model.specs.Allowed.{IsAllowed, IsAllowedBy, IsAnswer, IsHeld, IsPeekAnswer, IsStuck, IsTakeAnswer, can_go, flags_of, has_open, holds, is_prompt}
+use Rattle.run_model.specs.Allowed.{IsAllowed, IsAllowedBy, IsAnswer, IsHeld, IsPeekAnswer, IsStuck, IsTakeAnswer, can_go, flags_of, has_open, mode_holds, is_prompt, probe_of}
 use Rattle.run_model.specs.Chosen.{IsChosenEvent, chosen_event, order_of}
 use Rattle.run_model.specs.Due.{due}
 use Rattle.run_model.specs.Lists.{Along}
 use Rattle.run_model.specs.MachineLaws.{OrderFixesRun}
 use Rattle.run_model.specs.Run.{IsEvent}
 use Rattle.run_model.specs.Shape.{is_test}
-use Rattle.run_model.specs.Views.{Next, View, replies_in, view_of}
+use Rattle.run_model.specs.Views.{Next, View, moment_of, replies_in, view_of}
 
 same_events : (next : Next) (n : ℕ) (before one other : List Event) → Along (IsEvent next n) before one → Along (IsChosenEvent n) before one
     → Along (IsEvent next n) before other → Along (IsChosenEvent n) before other → order_of one ≡ order_of other → one ≡ other
@@ -44,16 +44,16 @@ held_stuck true stuck reply h is = absurd (cc)
 held_stuck false stuck reply h is = is.1
 
 answer_stuck : (stuck : Type 0) (n : ℕ) (before : List Event) (own : View) (me : ℕ) (call : Call) (reply : Reply)
-    → is_prompt n before me own call ≡ false → IsAnswer stuck n before me own call reply → reply ≡ Stopped Stuck
+    → is_prompt n before me own call ≡ false → IsAnswer stuck (moment_of n before me own) call reply → reply ≡ Stopped Stuck
 answer_stuck stuck n before own me (Take starts mode) reply h is =
-    let H : Bool = holds mode (flags_of n before me own starts) in
+    let H : Bool = mode_holds mode (flags_of (moment_of n before me own) starts) in
     let parts = or_parts (is_test mode) H h in
-    let F : Bool → Type 0 = λ b. IsTakeAnswer b stuck n before me own starts mode reply in
+    let F : Bool → Type 0 = λ b. IsTakeAnswer b stuck (moment_of n before me own) starts mode reply in
     held_stuck (is_test mode) stuck reply parts.0 (subst F parts.1 is)
 answer_stuck stuck n before own me (Peek comm source tag wait) reply h is =
     let H : Bool = has_open n before me comm source tag in
     let parts = or_parts (not wait) H h in
-    let F : Bool → Type 0 = λ b. IsPeekAnswer b stuck before me comm source tag wait reply in
+    let F : Bool → Type 0 = λ b. IsPeekAnswer b stuck before (probe_of me comm source tag) wait reply in
     held_stuck (not wait) stuck reply parts.0 (subst F parts.1 is)
 answer_stuck stuck n before own me (Send comm dest tag ints sync) reply h is = absurd (cc)
 answer_stuck stuck n before own me (Post comm source tag room) reply h is = absurd (cc)
@@ -63,7 +63,7 @@ answer_stuck stuck n before own me (Trap fault) reply h is = absurd (cc)
 answer_stuck stuck n before own me End reply h is = absurd (cc)
 
 allowed_stuck : (halt : Option Halt) (stuck : Type 0) (n : ℕ) (before : List Event) (own : View) (me : ℕ) (call : Call) (reply : Reply)
-    → (is_some halt || is_prompt n before me own call) ≡ false → IsAllowedBy halt stuck n before me own call reply → reply ≡ Stopped Stuck
+    → (is_some halt || is_prompt n before me own call) ≡ false → IsAllowedBy halt stuck (moment_of n before me own) call reply → reply ≡ Stopped Stuck
 allowed_stuck None stuck n before own me call reply h is = answer_stuck stuck n before own me call reply h is
 allowed_stuck (Some halt) stuck n before own me call reply h is = absurd (cc)
 

@@ -8,7 +8,7 @@ use Rattle.mpi_call.specs.declared.call.Source.{Source}
 use Rattle.mpi_call.specs.declared.call.Tag.{Tag}
 use Rattle.mpi_call.specs.Acceptance.{accepts}
 use Rattle.run_model.specs.declared.event.Event.{Event}
-use Rattle.run_model.specs.Allowed.{IsPeeked, has_open, open_in}
+use Rattle.run_model.specs.Allowed.{IsPeeked, has_open, open_in, probe_of}
 use Rattle.run_model.specs.Choice.{choice}
 use Rattle.run_model.specs.Chosen.{peeked_at, peeked_in}
 use Rattle.run_model.specs.Lists.{world}
@@ -21,7 +21,7 @@ use Rattle.run_model.proofs.Positions.{name_at-lower, name_position}
 use Rattle.run_model.proofs.Views.{option_cases, test_cases}
 
 pub peek_found : (before : List Event) (me comm : ℕ) (source : Source) (tag : Tag) (wait : Bool) (at : ℕ)
-    → choice before me (Peek comm source tag wait) ≡ Some at → IsPeeked before me comm source tag (peeked_at before (name_at before at))
+    → choice before me (Peek comm source tag wait) ≡ Some at → IsPeeked before (probe_of me comm source tag) (peeked_at before (name_at before at))
 peek_found before me comm source tag wait at h =
     let c = choice_some before me (Peek comm source tag wait) at h in
     let o = c.chosen in
@@ -65,11 +65,11 @@ unpaired_is pairs name h =
     ]
 
 open_found : (pairs : List (Name × Name)) (me comm : ℕ) (source : Source) (tag : Tag) (sender start : ℕ) (calls : List Call)
-    → open_in pairs me comm source tag sender start calls ≡ true → IsOpenIn pairs me comm source tag sender start calls
+    → open_in pairs (probe_of me comm source tag) sender start calls ≡ true → IsOpenIn pairs me comm source tag sender start calls
 open_found pairs me comm source tag sender start [] h = absurd (cc)
 open_found pairs me comm source tag sender start (call ∷ calls) h =
     let here : Bool = accepts me comm source tag sender call && not (is_some (partner_of pairs (sender, start))) in
-    elim (or_cases here (open_in pairs me comm source tag sender (start + 1) calls) h) [
+    elim (or_cases here (open_in pairs (probe_of me comm source tag) sender (start + 1) calls) h) [
       | inl t ↦
           let parts = and_parts (accepts me comm source tag sender call) (not (is_some (partner_of pairs (sender, start)))) t in
           let F : ℕ → Type 0 = λ x. partner_of pairs (sender, x) ≡ None in
@@ -83,11 +83,11 @@ open_found pairs me comm source tag sender start (call ∷ calls) h =
     ]
 
 missed_at : (pairs : List (Name × Name)) (me comm : ℕ) (source : Source) (tag : Tag) (sender start : ℕ) (calls : List Call) (k : ℕ) (call : Call)
-    → open_in pairs me comm source tag sender start calls ≡ false → slice_get calls k ≡ Some call → accepts me comm source tag sender call ≡ true
+    → open_in pairs (probe_of me comm source tag) sender start calls ≡ false → slice_get calls k ≡ Some call → accepts me comm source tag sender call ≡ true
     → partner_of pairs (sender, start + k) ≡ None → ⊥
 missed_at pairs me comm source tag sender start [] k call h there accepted free = cc
 missed_at pairs me comm source tag sender start (x ∷ calls) zero call h there accepted free =
-    let parts = or_parts (accepts me comm source tag sender x && not (is_some (partner_of pairs (sender, start)))) (open_in pairs me comm source tag sender (start + 1) calls) h in
+    let parts = or_parts (accepts me comm source tag sender x && not (is_some (partner_of pairs (sender, start)))) (open_in pairs (probe_of me comm source tag) sender (start + 1) calls) h in
     let same : x ≡ call = cc in
     let F : ℕ → Type 0 = λ x. partner_of pairs (sender, x) ≡ None in
     let e : start + 0 ≡ start = omega arith in
@@ -97,13 +97,13 @@ missed_at pairs me comm source tag sender start (x ∷ calls) zero call h there 
     let no : true ≡ false = rw (here, none) at parts.0 in
     cc
 missed_at pairs me comm source tag sender start (x ∷ calls) (suc k) call h there accepted free =
-    let parts = or_parts (accepts me comm source tag sender x && not (is_some (partner_of pairs (sender, start)))) (open_in pairs me comm source tag sender (start + 1) calls) h in
+    let parts = or_parts (accepts me comm source tag sender x && not (is_some (partner_of pairs (sender, start)))) (open_in pairs (probe_of me comm source tag) sender (start + 1) calls) h in
     let F : ℕ → Type 0 = λ x. partner_of pairs (sender, x) ≡ None in
     let e : start + suc k ≡ start + 1 + k = omega arith in
     missed_at pairs me comm source tag sender (start + 1) calls k call parts.1 there accepted (subst F e free)
 
 open_missed : (pairs : List (Name × Name)) (me comm : ℕ) (source : Source) (tag : Tag) (sender start : ℕ) (calls : List Call)
-    → open_in pairs me comm source tag sender start calls ≡ false → IsOpenIn pairs me comm source tag sender start calls → ⊥
+    → open_in pairs (probe_of me comm source tag) sender start calls ≡ false → IsOpenIn pairs me comm source tag sender start calls → ⊥
 open_missed pairs me comm source tag sender start calls h o = missed_at pairs me comm source tag sender start calls o.k o.call h o.there o.accepted o.free
 
 any_of_world : (f : ℕ → Bool) (n low : ℕ) → list_any f (world n low) ≡ true → (m : ℕ) × (f m ≡ true)
@@ -125,7 +125,7 @@ pub peek_missed : (n : ℕ) (before : List Event) (me comm : ℕ) (source : Sour
 peek_missed n before me comm source tag wait none =
     elim (test_cases (has_open n before me comm source tag)) [
       | inl t ↦
-          let any = any_of_world (λ sender. open_in (pairs_of before) me comm source tag sender 0 (starts_of (view_of before sender))) n 0 t in
+          let any = any_of_world (λ sender. open_in (pairs_of before) (probe_of me comm source tag) sender 0 (starts_of (view_of before sender))) n 0 t in
           let o = open_found (pairs_of before) me comm source tag any.0 0 (starts_of (view_of before any.0)) any.1 in
           let p = name_position before (any.0, o.k) o.call o.there in
           let F : ℕ → Type 0 = λ x. partner_of (pairs_of before) (any.0, x) ≡ None in
@@ -147,7 +147,7 @@ peek_there n before me comm source tag wait at all h =
           record { k = o.name.1; call = o.start; there = o.made; accepted = o.suited; free = subst F e o.free } in
           elim (cases_lt o.name.0 n) [
             | inl below ↦
-                let closed = none_of_world (λ sender. open_in (pairs_of before) me comm source tag sender 0 (starts_of (view_of before sender))) n 0 o.name.0 t (omega arith) (omega arith) in
+                let closed = none_of_world (λ sender. open_in (pairs_of before) (probe_of me comm source tag) sender 0 (starts_of (view_of before sender))) n 0 o.name.0 t (omega arith) (omega arith) in
                 absurd (open_missed (pairs_of before) me comm source tag o.name.0 0 (starts_of (view_of before o.name.0)) closed open_at)
             | inr above ↦ (let no : None ≡ Some o.start = rw (all.empty o.name.0 above) at o.made in absurd (cc))
           ]

@@ -3,7 +3,7 @@ use Rattle.std.proofs.Common.{◌∙◌, ◌∷◌, ◌≡◌, Bool, Err, List, 
 use Rattle.mpi_call.specs.declared.call.Call.{Call}
 use Rattle.mpi_call.specs.Calls.{comm_of, ints_of}
 use Rattle.mpi_call.specs.Collectives.{needs}
-use Rattle.run_model.specs.Communicators.{Entered, enter_at, instance_of, members_in}
+use Rattle.run_model.specs.Communicators.{Entered, enter_at, instance_of, members_for_rank}
 use Rattle.run_model.specs.Inputs.{gather, inputs_of, push_ints, with_ints}
 use Rattle.run_model.specs.Views.{View}
 use Rattle.run_model.proofs.Prefixes.{Begins}
@@ -43,6 +43,6 @@ gather-same needed find later (m ∷ members) inputs keeps h =
 pub inputs-kept : (n : ℕ) (V W : ℕ → View) (own : View) (me k : ℕ) (enter : Call) (inputs : List (List ℤ)) → Begins V W
     → inputs_of n V me own k enter ≡ Ok inputs → inputs_of n W me own k enter ≡ Ok inputs
 inputs-kept n V W own me k enter inputs begins h =
-    gather-same (needs enter (members_in n own (comm_of enter)) me) (λ m. enter_at n (V m) (comm_of enter) (instance_of own k (comm_of enter))) (λ m. enter_at n (W m) (comm_of enter) (instance_of own k (comm_of enter))) (members_in n own (comm_of enter)) inputs
+    gather-same (needs enter (members_for_rank n own (comm_of enter)) me) (λ m. enter_at n (V m) (comm_of enter) (instance_of own k (comm_of enter))) (λ m. enter_at n (W m) (comm_of enter) (instance_of own k (comm_of enter))) (members_for_rank n own (comm_of enter)) inputs
     (λ m. enter_at-kept n (V m) (W m) (comm_of enter) (instance_of own k (comm_of enter)) (begins m)) h
     ∙ h

@@ -6,7 +6,7 @@ use Rattle.run_model.specs.declared.event.Event.{Event}
 use Rattle.run_model.specs.Choice.{choice}
 use Rattle.run_model.specs.Chosen.{IsChosen, IsChosenEvent, chosen_event, chosen_reply}
 use Rattle.run_model.specs.Lists.{Along}
-use Rattle.run_model.specs.MachineLaws.{GoesOn}
+use Rattle.run_model.specs.MachineLaws.{StaysMatched}
 use Rattle.run_model.specs.Numbers.{communicators_of}
 use Rattle.run_model.specs.Run.{AreNumbered, HasMate, IsEvent, IsRun}
 use Rattle.run_model.specs.Views.{Next, is_start, view_of}
@@ -68,7 +68,7 @@ known_run next n events lawful chosen =
     })
     (both_along next n [] events chosen.run.along chosen.along)
 
-pub goes_on : (next : Next) (n : ℕ) → Lawful next → GoesOn next n
+pub goes_on : (next : Next) (n : ℕ) → Lawful next → StaysMatched next n
 goes_on next n lawful before rank call chosen below asked goes matched =
     let kept = kept_run next n before lawful chosen.run in
     let known = known_run next n before lawful chosen in

@@ -12,11 +12,11 @@ use Rattle.mpi_call.specs.declared.reply.Item.{Item}
 use Rattle.mpi_call.specs.declared.reply.Reply.{Reply}
 use Rattle.mpi_call.specs.declared.reply.Reply.TheVariants.{Done, NotYet, Peeked, Stopped, Took}
 use Rattle.run_model.specs.declared.event.Event.{Event}
-use Rattle.run_model.specs.Allowed.{IsAllowed, IsAllowedBy, IsAnswer, IsHeld, IsPeekAnswer, IsStuck, IsTakeAnswer, first_long, flags_of, has_open, holds, taken_reply}
-use Rattle.run_model.specs.Due.{bad_request, due, halt_at, halt_in, halted, is_full, is_mismatched, or_else}
+use Rattle.run_model.specs.Allowed.{IsAllowed, IsAllowedBy, IsAnswer, IsHeld, IsPeekAnswer, IsStuck, IsTakeAnswer, first_long, flags_of, has_open, mode_holds, probe_of, taken_reply}
+use Rattle.run_model.specs.Due.{bad_request, due, halt_at, halt_of_reply, halted, is_full, is_mismatched, or_else}
 use Rattle.run_model.specs.Run.{IsEvent}
 use Rattle.run_model.specs.Shape.{is_test}
-use Rattle.run_model.specs.Views.{Next, View, view_of}
+use Rattle.run_model.specs.Views.{Next, View, moment_of, view_of}
 use Rattle.run_model.proofs.Views.{option_cases, test_cases, view_of-append, view_of-mine}
 
 -- the halt names the rank
@@ -50,12 +50,12 @@ taken_own None items reply halt me is h = (let no : Took items ≡ Stopped halt 
 taken_own (Some k) items reply halt me is h = stopped_same (Truncated me k) halt reply me is h (record { own = λ rank t. eqb-true me rank t })
 
 take_own : (condition : Bool) (stuck : Type 0) (n : ℕ) (before : List Event) (own : View) (me : ℕ) (starts : List ℕ) (mode : TakeMode) (reply : Reply) (halt : Halt)
-    → IsTakeAnswer condition stuck n before me own starts mode reply → reply ≡ Stopped halt → OwnHalt me halt
+    → IsTakeAnswer condition stuck (moment_of n before me own) starts mode reply → reply ≡ Stopped halt → OwnHalt me halt
 take_own true stuck n before own me starts mode reply halt is h = taken_own (first_long own starts is.items) is.items reply halt me is.reply_is h
 take_own false stuck n before own me starts mode reply halt is h = held_own (is_test mode) stuck reply halt me is h
 
 peek_own : (found : Bool) (stuck : Type 0) (before : List Event) (me comm : ℕ) (source : Source) (tag : Tag) (wait : Bool) (reply : Reply) (halt : Halt)
-    → IsPeekAnswer found stuck before me comm source tag wait reply → reply ≡ Stopped halt → OwnHalt me halt
+    → IsPeekAnswer found stuck before (probe_of me comm source tag) wait reply → reply ≡ Stopped halt → OwnHalt me halt
 peek_own true stuck before me comm source tag wait reply halt is h = (let no : Peeked is.send.0 is.send.1 is.t (length is.ints) ≡ Stopped halt = sym is.reply_is ∙ h in absurd (cc))
 peek_own false stuck before me comm source tag wait reply halt is h = held_own (not wait) stuck reply halt me is h
 
@@ -63,8 +63,8 @@ done_own : (reply : Reply) (halt : Halt) (me : ℕ) → reply ≡ Done → reply
 done_own reply halt me is h = (let no : Done ≡ Stopped halt = sym is ∙ h in absurd (cc))
 
 answer_own : (stuck : Type 0) (n : ℕ) (before : List Event) (own : View) (me : ℕ) (call : Call) (reply : Reply) (halt : Halt)
-    → IsAnswer stuck n before me own call reply → reply ≡ Stopped halt → OwnHalt me halt
-answer_own stuck n before own me (Take starts mode) reply halt is h = take_own (holds mode (flags_of n before me own starts)) stuck n before own me starts mode reply halt is h
+    → IsAnswer stuck (moment_of n before me own) call reply → reply ≡ Stopped halt → OwnHalt me halt
+answer_own stuck n before own me (Take starts mode) reply halt is h = take_own (mode_holds mode (flags_of (moment_of n before me own) starts)) stuck n before own me starts mode reply halt is h
 answer_own stuck n before own me (Peek comm source tag wait) reply halt is h = peek_own (has_open n before me comm source tag) stuck before me comm source tag wait reply halt is h
 answer_own stuck n before own me (Send comm dest tag ints sync) reply halt is h = done_own reply halt me is h
 answer_own stuck n before own me (Post comm source tag room) reply halt is h = done_own reply halt me is h
@@ -104,7 +104,7 @@ allowed_own : (next : Next) (n : ℕ) (before : List Event) (me : ℕ) (call : C
     → halted before ≡ None → IsAllowed next n before me call reply → reply ≡ Stopped halt → OwnHalt me halt
 allowed_own next n before me call reply halt none is h =
     let own : View = view_of before me in
-    let F : Option Halt → Type 0 = λ x. IsAllowedBy x (IsStuck next n before) n before me own call reply in
+    let F : Option Halt → Type 0 = λ x. IsAllowedBy x (IsStuck next n before) (moment_of n before me own) call reply in
     elim (option_cases (due n before me own call)) [
       | inl some ↦ (let stopped : reply ≡ Stopped some.0 = subst F some.1 is in stopped_same some.0 halt reply me stopped h (first_own n before own me call some.0 none some.1))
       | inr free ↦ answer_own (IsStuck next n before) n before own me call reply halt (subst F free is) h
@@ -141,11 +141,11 @@ or_else-none None = refl
 or_else-none (Some halt) = refl
 
 halted-push : (before : List Event) (event : Event)
-    → halted (before ++ event ∷ []) ≡ or_else (halted before) (halt_in event.reply)
-halted-push [] event = or_else-none (halt_in event.reply)
-halted-push (x ∷ before) event = rw (halted-push before event) (or_else-assoc (halt_in x.reply) (halted before) (halt_in event.reply))
+    → halted (before ++ event ∷ []) ≡ or_else (halted before) (halt_of_reply event.reply)
+halted-push [] event = or_else-none (halt_of_reply event.reply)
+halted-push (x ∷ before) event = rw (halted-push before event) (or_else-assoc (halt_of_reply x.reply) (halted before) (halt_of_reply event.reply))
 
-halt_in-stopped : (reply : Reply) (halt : Halt) → halt_in reply ≡ Some halt → reply ≡ Stopped halt
+halt_in-stopped : (reply : Reply) (halt : Halt) → halt_of_reply reply ≡ Some halt → reply ≡ Stopped halt
 halt_in-stopped (Stopped other) halt h = (let e : other ≡ halt = cc in ap (λ x. Stopped x) e)
 halt_in-stopped Done halt h = absurd (cc)
 halt_in-stopped NotYet halt h = absurd (cc)
@@ -161,13 +161,13 @@ named_more next n before event all step =
     record {
       each = λ halt rank h named. elim (option_cases (halted before)) [
         | inl some ↦ (
-            let now : or_else (halted before) (halt_in event.reply) ≡ Some halt = sym (halted-push before event) ∙ h in
+            let now : or_else (halted before) (halt_of_reply event.reply) ≡ Some halt = sym (halted-push before event) ∙ h in
             let e : Some some.0 ≡ Some halt = rw some.1 at now in
             let same : halted before ≡ Some halt = some.1 ∙ e in
             rw (view_of-append before (event ∷ []) rank) (was_stopped-front (view_of before rank) (view_of (event ∷ []) rank) (all.each halt rank same named)))
         | inr none ↦ (
-            let now : or_else (halted before) (halt_in event.reply) ≡ Some halt = sym (halted-push before event) ∙ h in
-            let last : halt_in event.reply ≡ Some halt = rw none at now in
+            let now : or_else (halted before) (halt_of_reply event.reply) ≡ Some halt = sym (halted-push before event) ∙ h in
+            let last : halt_of_reply event.reply ≡ Some halt = rw none at now in
             let stopped = halt_in-stopped event.reply halt last in
             let mine : event.rank ≡ rank = (allowed_own next n before event.rank event.call event.reply halt none step.reply stopped).own rank named in
             rw (view_of-mine before event rank mine) (was_stopped-last (view_of before rank) event.call event.reply (rw stopped)))

@@ -11,11 +11,11 @@ use Rattle.mpi_call.proofs.MadeLemmas.{members_made-same}
 use Rattle.mpi_call.proofs.MemberLemmas.{at_place_of, place_of-within}
 use Rattle.mpi_call.proofs.NeedsLemmas.{agree-refl, agree-sym, needs-coloured, needs-me}
 use Rattle.run_model.specs.declared.event.Event.{Event}
-use Rattle.run_model.specs.Communicators.{Entered, count_on, enter_at, instance_of, is_on, known_first, known_in, members_in}
+use Rattle.run_model.specs.Communicators.{Entered, count_on, enter_at, instance_of, is_on, known_first, known_in, members_for_rank}
 use Rattle.run_model.specs.Inputs.{gather, inputs_of}
 use Rattle.run_model.specs.Pairs.{Name}
 use Rattle.mpi_call.specs.Lists.{IsIn}
-use Rattle.run_model.specs.Run.{AreNumbered, MadeTwo, SameOrigin, numbers_of}
+use Rattle.run_model.specs.Run.{AreNumbered, MadeTwo, SameOrigin, entrance_of, numbers_in_view}
 use Rattle.run_model.specs.Views.{View, is_start, start_at, starts_of, view_of}
 use Rattle.run_model.proofs.Agreement.{input_length-agree}
 use Rattle.run_model.proofs.Enters.{NewEnter, enter_back, gather-needed, instance_of-kept, known_in-kept, members_kept, not_world, own_at}
@@ -49,7 +49,7 @@ pub record OwnEnter (n : ℕ) (V : ℕ → View) (r k : ℕ) (enter : Call) : Ty
   pub call_is : entered.call ≡ enter
   pub members : List ℕ
   pub known : known_in n (V r) (comm_of enter) ≡ Some members
-  pub all : members_in n (V r) (comm_of enter) ≡ members
+  pub all : members_for_rank n (V r) (comm_of enter) ≡ members
   pub form : IsEnterOf enter members r
 
 pub own_enter : (n : ℕ) (V : ℕ → View) (r k : ℕ) (enter : Call) → SameInstances n V → start_at (V r) k ≡ Some enter
@@ -120,7 +120,7 @@ gather-at needed find (m ∷ members) inputs (suc place) h below need =
 -- they are inputs of the Enter, by the table
 pub inputs_fit : (n : ℕ) (V : ℕ → View) (r k : ℕ) (enter : Call) (inputs : List (List ℤ)) → SameInstances n V
     → start_at (V r) k ≡ Some enter → is_enter enter ≡ true → inputs_of n V r (V r) k enter ≡ Ok inputs
-    → AreInputsOf enter (members_in n (V r) (comm_of enter)) inputs r
+    → AreInputsOf enter (members_for_rank n (V r) (comm_of enter)) inputs r
 inputs_fit n V r k enter inputs same at is gathered =
     let C : ℕ = comm_of enter in
     let I : ℕ = instance_of (V r) k C in
@@ -142,13 +142,13 @@ inputs_fit n V r k enter inputs same at is gathered =
 -- what the rank itself entered is among them, where it is needed
 pub input_own : (n : ℕ) (V : ℕ → View) (r k : ℕ) (enter : Call) (inputs : List (List ℤ)) → SameInstances n V
     → start_at (V r) k ≡ Some enter → is_enter enter ≡ true → inputs_of n V r (V r) k enter ≡ Ok inputs
-    → is_member (members_in n (V r) (comm_of enter)) r ≡ true
-    → input_of (members_in n (V r) (comm_of enter)) inputs r ≡ ints_of enter
+    → is_member (members_for_rank n (V r) (comm_of enter)) r ≡ true
+    → input_of (members_for_rank n (V r) (comm_of enter)) inputs r ≡ ints_of enter
 input_own n V r k enter inputs same at is gathered member =
     let C : ℕ = comm_of enter in
     let I : ℕ = instance_of (V r) k C in
     let own = own_enter n V r k enter same at is in
-    let M : List ℕ = members_in n (V r) C in
+    let M : List ℕ = members_for_rank n (V r) C in
     let find : ℕ → Option Entered = λ m. enter_at n (V m) C I in
     let place : ℕ = place_of M r in
     let here : get_or M place 0 ≡ r = at_place_of M r member in
@@ -169,11 +169,11 @@ pub record Provenance (n : ℕ) (V : ℕ → View) (r comm : ℕ) (members : Lis
   pub makes_is : makes enter ≡ true
   pub coloured : is_uncoloured enter ≡ false
   pub gathered : inputs_of n V r (V r) k enter ≡ Ok inputs
-  pub given : members ≡ members_made enter (members_in n (V r) (comm_of enter)) inputs r
+  pub given : members ≡ members_made enter (members_for_rank n (V r) (comm_of enter)) inputs r
 
 -- two of one origin have the same members
 same_made : (n : ℕ) (V : ℕ → View) (r s comm : ℕ) (one two : List ℕ) (p : Provenance n V r comm one) (q : Provenance n V s comm two)
-    → SameInstances n V → SameOrigin V r p.k s q.k p.enter q.enter → one ≡ two
+    → SameInstances n V → SameOrigin V (entrance_of r p.k p.enter) (entrance_of s q.k q.enter) → one ≡ two
 same_made n V r s comm one two p q same origin =
     let C : ℕ = comm_of q.enter in
     let I : ℕ = instance_of (V s) q.k C in
@@ -186,8 +186,8 @@ same_made n V r s comm one two p q same origin =
     let known_mine : known_in n (V r) C ≡ Some mine.members = rw comm_is at mine.known in
     let M : List ℕ = theirs.members in
     let equal : mine.members ≡ M = same.members r s C mine.members M known_mine theirs.known in
-    let m_r : members_in n (V r) C ≡ M = rw known_mine equal in
-    let m_s : members_in n (V s) C ≡ M = theirs.all in
+    let m_r : members_for_rank n (V r) C ≡ M = rw known_mine equal in
+    let m_s : members_for_rank n (V s) C ≡ M = theirs.all in
     let find : ℕ → Option Entered = λ m. enter_at n (V m) C I in
     let g_p : gather (needs p.enter M r) find M ≡ Ok p.inputs = rw (comm_is, m_r, instances) at p.gathered in
     let g_q : gather (needs q.enter M s) find M ≡ Ok q.inputs = rw m_s at q.gathered in
@@ -204,7 +204,7 @@ fine_made : (n : ℕ) (V : ℕ → View) (r comm : ℕ) (members : List ℕ) →
 fine_made n V r comm members same below p =
     let own = own_enter n V r p.k p.enter same p.at p.is in
     let fine = same.fine r (comm_of p.enter) own.members below own.known in
-    let M : List ℕ = members_in n (V r) (comm_of p.enter) in
+    let M : List ℕ = members_for_rank n (V r) (comm_of p.enter) in
     let F : List ℕ → Type 0 = λ l. AreMembers n r l in
     let of_old : AreMembers n r M = subst F (sym own.all) fine in
     let input = input_own n V r p.k p.enter p.inputs same p.at p.is p.gathered of_old.has_me in
@@ -213,13 +213,13 @@ fine_made n V r comm members same below p =
 -- ..and are numbered in these views
 pub record Sourced (n : ℕ) (V W : ℕ → View) (r comm : ℕ) (members : List ℕ) : Type 0 where
   pub from : Provenance n V r comm members
-  pub number : IsIn (comm, from.k) (numbers_of (W r))
+  pub number : IsIn (comm, from.k) (numbers_in_view (W r))
 
 pub IsIn-front : (a : Name) (xs ys : List Name) → IsIn a xs → IsIn a (xs ++ ys)
 IsIn-front a [] ys inside = absurd inside
 IsIn-front a (x ∷ xs) ys inside = elim inside [ inl e ↦ inl e | inr later ↦ inr (IsIn-front a xs ys later) ]
 
-pub numbers_of-append : (xs ys : View) → numbers_of (xs ++ ys) ≡ numbers_of xs ++ numbers_of ys
+pub numbers_of-append : (xs ys : View) → numbers_in_view (xs ++ ys) ≡ numbers_in_view xs ++ numbers_in_view ys
 numbers_of-append [] ys = refl
 numbers_of-append ((call, reply) ∷ xs) ys = rw (numbers_of-append xs ys, append_assoc)
 
@@ -229,8 +229,8 @@ provenance_kept n V W r comm members begins same p =
     let C : ℕ = comm_of p.enter in
     let own = own_enter n V r p.k p.enter same p.at p.is in
     let k_w : known_in n (W r) C ≡ Some own.members = known_in-kept n (V r) (W r) C own.members (begins r) own.known in
-    let m_w : members_in n (W r) C ≡ own.members = rw k_w in
-    let all : members_in n (W r) C ≡ members_in n (V r) C = m_w ∙ sym own.all in
+    let m_w : members_for_rank n (W r) C ≡ own.members = rw k_w in
+    let all : members_for_rank n (W r) C ≡ members_for_rank n (V r) C = m_w ∙ sym own.all in
     let instance = instance_of-kept (V r) (W r) p.k C p.enter (begins r) p.at in
     let gathered = inputs-kept n V W (V r) r p.k p.enter p.inputs begins p.gathered in
     record {
@@ -311,14 +311,14 @@ new_members n before event s comm one two is keeps none new old =
     let real = not_world n comm (V event.rank) none in
     let p = keeps.source comm one none new in
     let q = is.sources s comm two old real in
-    let in_w : IsIn (comm, q.from.k) (numbers_of (W s)) = rw (view_of-append before (event ∷ []) s, numbers_of-append (view_of before s) (view_of (event ∷ []) s)) (IsIn-front (comm, q.from.k) (numbers_of (V s)) (numbers_of (view_of (event ∷ []) s)) q.number) in
+    let in_w : IsIn (comm, q.from.k) (numbers_in_view (W s)) = rw (view_of-append before (event ∷ []) s, numbers_of-append (view_of before s) (view_of (event ∷ []) s)) (IsIn-front (comm, q.from.k) (numbers_in_view (V s)) (numbers_in_view (view_of (event ∷ []) s)) q.number) in
     let at_p = (start_at-kept (V event.rank) (W event.rank) p.from.k (begins event.rank)).kept p.from.enter p.from.at in
     let at_q = (start_at-kept (V s) (W s) q.from.k (begins s)).kept q.from.enter q.from.at in
-    let two_made : MadeTwo W event.rank comm p.from.k s comm q.from.k p.from.enter q.from.enter = record { first = p.number; second = in_w; first_new = real; second_new = real; first_enter = at_p; second_enter = at_q } in
+    let two_made : MadeTwo W (entrance_of event.rank p.from.k p.from.enter) comm (entrance_of s q.from.k q.from.enter) comm = record { first = p.number; second = in_w; first_new = real; second_new = real; first_enter = at_p; second_enter = at_q } in
     let origin = keeps.numbered.origin event.rank comm p.from.k s comm q.from.k p.from.enter q.from.enter two_made refl in
     let i_p = instance_of-kept (V event.rank) (W event.rank) p.from.k (comm_of p.from.enter) p.from.enter (begins event.rank) p.from.at in
     let i_q = instance_of-kept (V s) (W s) q.from.k (comm_of q.from.enter) q.from.enter (begins s) q.from.at in
-    let origin_v : SameOrigin V event.rank p.from.k s q.from.k p.from.enter q.from.enter = record { comm = origin.comm; instance = sym i_p ∙ (origin.instance ∙ i_q); colour = origin.colour } in
+    let origin_v : SameOrigin V (entrance_of event.rank p.from.k p.from.enter) (entrance_of s q.from.k q.from.enter) = record { comm = origin.comm; instance = sym i_p ∙ (origin.instance ∙ i_q); colour = origin.colour } in
     same_made n V event.rank s comm one two p.from q.from is.same origin_v
 
 pub Instances-more : (n : ℕ) (before : List Event) (event : Event) → event.rank < n → Instances n (view_of before)
@@ -380,7 +380,7 @@ Instances-more n before event low is keeps =
             let s = is.sources r comm members old real in
             record {
               from = provenance_kept n V W r comm members begins is.same s.from;
-              number = rw (view_of-append before (event ∷ []) r, numbers_of-append (view_of before r) (view_of (event ∷ []) r)) (IsIn-front (comm, s.from.k) (numbers_of (V r)) (numbers_of (view_of (event ∷ []) r)) s.number);
+              number = rw (view_of-append before (event ∷ []) r, numbers_of-append (view_of before r) (view_of (event ∷ []) r)) (IsIn-front (comm, s.from.k) (numbers_in_view (V r)) (numbers_in_view (view_of (event ∷ []) r)) s.number);
             })
         | inr new ↦ (
             let F : ℕ → Type 0 = λ x. known_in n (W x) comm ≡ Some members in

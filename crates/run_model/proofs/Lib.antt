@@ -1,5 +1,6 @@
 pub mod Along
 pub mod Views
+pub mod FewRanks
 pub mod Prefixes
 pub mod HandedOut
 pub mod StartLemmas

@@ -12,11 +12,11 @@ use Rattle.run_model.specs.Pairs.{IsMatched, Name, named, pairs_of, partner_of}
 pub none_matched : IsMatched []
 none_matched =
     record {
-      pair = λ a b h. absurd (cc);
-      single = λ a b h. absurd (cc);
-      sends = λ post sent h start less takes. absurd (cc);
-      posts = λ post sent h start less takes. absurd (cc);
-      closed = λ post sent takes p q. (let no : None ≡ Some takes.post_call = takes.post_is in cc);
+      pairs_accept = λ a b h. absurd (cc);
+      one_partner = λ a b h. absurd (cc);
+      no_overtaking = λ post sent h start less takes. absurd (cc);
+      earliest_receive = λ post sent h start less takes. absurd (cc);
+      nothing_waits = λ post sent takes p q. (let no : None ≡ Some takes.post_call = takes.post_is in cc);
     }
 
 -- In a run, an entry fits its call, and breaks on no start.
@@ -38,7 +38,7 @@ pub taken_pair : (before : List Event) (post send : Name) (comm : ℕ) (source :
     → IsMatched before → partner_of (pairs_of before) post ≡ Some send → named before post ≡ Some (Post comm source tag room)
     → named before send ≡ Some (Send c dest t ints sync) → accepts post.0 comm source tag send.0 (Send c dest t ints sync) ≡ true
 taken_pair before post send comm source tag room c dest t ints sync matched paired post_is send_is =
-    elim (matched.pair post send paired) [
+    elim (matched.pairs_accept post send paired) [
       | inl takes ↦
           let p : Some takes.post_call ≡ Some (Post comm source tag room) = sym takes.post_is ∙ post_is in
           let q : Some takes.send_call ≡ Some (Send c dest t ints sync) = sym takes.send_is ∙ send_is in

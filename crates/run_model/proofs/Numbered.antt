@@ -10,18 +10,18 @@ use Rattle.mpi_call.specs.declared.reply.Reply.{Reply}
 use Rattle.mpi_call.specs.Calls.{comm_of, makes}
 use Rattle.mpi_call.specs.Collectives.{colour_of, is_uncoloured}
 use Rattle.run_model.specs.declared.event.Event.{Event}
-use Rattle.run_model.specs.Allowed.{first_long, flags_of, holds, taken_reply}
+use Rattle.run_model.specs.Allowed.{first_long, flags_of, mode_holds, taken_reply}
 use Rattle.run_model.specs.Choice.{choice, chosen_places}
-use Rattle.run_model.specs.Chosen.{IsChosenEvent, chosen_answer, chosen_reply, collected, collected_by, got_of, halt_or, held_reply, items_at, items_of, message_in, message_of, peek_reply, peeked_at, peeked_in}
+use Rattle.run_model.specs.Chosen.{IsChosenEvent, chosen_answer, chosen_reply, collected, collected_by, got_of, halt_or, held_reply, items_at, items_of, message_of_pair, message_of, peek_reply, peeked_at, peeked_in}
 use Rattle.run_model.specs.Communicators.{instance_of}
 use Rattle.run_model.specs.Due.{due}
 use Rattle.run_model.specs.Inputs.{inputs_of}
 use Rattle.run_model.specs.Numbers.{Origin, communicators_of, made_along, made_at, number_among, origin_of}
 use Rattle.run_model.specs.Pairs.{Name, name_at, named, pairs_of, partner_of}
 use Rattle.mpi_call.specs.Lists.{IsIn}
-use Rattle.run_model.specs.Run.{AreNumbered, SameOrigin, number_in, numbers_in, numbers_in_reply, numbers_of}
+use Rattle.run_model.specs.Run.{AreNumbered, SameOrigin, entrance_of, numbers_made, numbers_in_items, numbers_in_reply, numbers_in_view}
 use Rattle.run_model.specs.Shape.{is_test}
-use Rattle.run_model.specs.Views.{View, start_at, view_of}
+use Rattle.run_model.specs.Views.{View, moment_at, moment_of, start_at, view_of}
 use Rattle.run_model.proofs.OriginLists.{IsListed, listed_front, number_kept, number_one}
 use Rattle.run_model.proofs.StartLemmas.{start_at-kept}
 use Rattle.run_model.proofs.Enters.{instance_of-kept}
@@ -36,7 +36,7 @@ pub record HasOrigin (made : List Origin) (own : View) (c k : ℕ) : Type 0 wher
   pub number : c ≡ number_among made (origin_of own k enter)
 
 abbrev pub AllNumbered : List Origin → (ℕ → View) → Type 0
-AllNumbered made V = (r c k : ℕ) → IsIn (c, k) (numbers_of (V r)) → (c == 0) ≡ false → HasOrigin made (V r) c k
+AllNumbered made V = (r c k : ℕ) → IsIn (c, k) (numbers_in_view (V r)) → (c == 0) ≡ false → HasOrigin made (V r) c k
 
 origin_for : (made : List Origin) (own : View) (c k : ℕ) (enter : Call) → HasOrigin made own c k → start_at own k ≡ Some enter
     → IsListed made (origin_of own k enter) × (c ≡ number_among made (origin_of own k enter))
@@ -46,7 +46,7 @@ origin_for made own c k enter has at =
     let F : Call → Type 0 = λ e. IsListed made (origin_of own k e) × (c ≡ number_among made (origin_of own k e)) in
     subst F same (has.listed, has.number)
 
-same_parts : (V : ℕ → View) (r k s l : ℕ) (one two : Call) → SameOrigin V r k s l one two → origin_of (V r) k one ≡ origin_of (V s) l two
+same_parts : (V : ℕ → View) (r k s l : ℕ) (one two : Call) → SameOrigin V (entrance_of r k one) (entrance_of s l two) → origin_of (V r) k one ≡ origin_of (V s) l two
 same_parts V r k s l one two same =
     let mk : ℕ → ℕ → List ℤ → Origin = λ c i z. record { comm = c; instance = i; colour = z } in
     ap (λ c. mk c (instance_of (V r) k (comm_of one)) (colour_of one)) same.comm
@@ -97,7 +97,7 @@ pub record IsFresh (n : ℕ) (before : List Event) (me : ℕ) (new : Name) : Typ
 collected_fresh : (makes_it uncoloured : Bool) (n : ℕ) (before : List Event) (me k : ℕ) (enter : Call) (inputs : List (List ℤ)) (new : Name)
     → start_at (view_of before me) k ≡ Some enter → makes enter ≡ makes_it → is_uncoloured enter ≡ uncoloured
     → inputs_of n (view_of before) me (view_of before me) k enter ≡ Ok inputs
-    → IsIn new (number_in k (collected_by makes_it uncoloured n before me (view_of before me) k enter inputs)) → (new.0 == 0) ≡ false
+    → IsIn new (numbers_made k (collected_by makes_it uncoloured (moment_at n before me) k enter inputs)) → (new.0 == 0) ≡ false
     → IsFresh n before me new
 collected_fresh true true n before me k enter inputs new at m u g there real =
     elim there [
@@ -118,24 +118,24 @@ collected_fresh false false n before me k enter inputs new at m u g there real =
 
 gathered_fresh : (n : ℕ) (before : List Event) (me k : ℕ) (enter : Call) (inputs : Result (List (List ℤ)) ℕ) (new : Name)
     → start_at (view_of before me) k ≡ Some enter → inputs_of n (view_of before) me (view_of before me) k enter ≡ inputs
-    → IsIn new (number_in k (collected n before me (view_of before me) k enter inputs)) → (new.0 == 0) ≡ false → IsFresh n before me new
+    → IsIn new (numbers_made k (collected (moment_at n before me) k enter inputs)) → (new.0 == 0) ≡ false → IsFresh n before me new
 gathered_fresh n before me k enter (Err missing) new at g there real = absurd there
 gathered_fresh n before me k enter (Ok inputs) new at g there real =
     collected_fresh (makes enter) (is_uncoloured enter) n before me k enter inputs new at refl refl g there real
 
-message_in-none : (k : ℕ) (send : Name) (call : Option Call) → number_in k (message_in send call) ≡ []
+message_in-none : (k : ℕ) (send : Name) (call : Option Call) → numbers_made k (message_of_pair send call) ≡ []
 message_in-none k send (Some (Send comm dest tag ints sync)) = refl
 message_in-none k send other = refl
 
-message_none : (k : ℕ) (before : List Event) (partner : Option Name) → number_in k (message_of before partner) ≡ []
+message_none : (k : ℕ) (before : List Event) (partner : Option Name) → numbers_made k (message_of before partner) ≡ []
 message_none k before None = refl
 message_none k before (Some send) = message_in-none k send (named before send)
 
-not_in_message : (k : ℕ) (before : List Event) (partner : Option Name) (new : Name) → IsIn new (number_in k (message_of before partner)) → ⊥
+not_in_message : (k : ℕ) (before : List Event) (partner : Option Name) (new : Name) → IsIn new (numbers_made k (message_of before partner)) → ⊥
 not_in_message k before partner new there = (let F : List Name → Type 0 = λ l. IsIn new l in subst F (message_none k before partner) there)
 
 got_fresh : (n : ℕ) (before : List Event) (me k : ℕ) (start : Option Call) (new : Name) → start_at (view_of before me) k ≡ start
-    → IsIn new (number_in k (got_of n before me (view_of before me) k start)) → (new.0 == 0) ≡ false → IsFresh n before me new
+    → IsIn new (numbers_made k (got_of (moment_at n before me) k start)) → (new.0 == 0) ≡ false → IsFresh n before me new
 got_fresh n before me k (Some (Enter comm kind root op count ints)) new at there real =
     gathered_fresh n before me k (Enter comm kind root op count ints) (inputs_of n (view_of before) me (view_of before me) k (Enter comm kind root op count ints)) new at refl there real
 got_fresh n before me k (Some (Post comm Any tag room)) new at there real = absurd (not_in_message k before (partner_of (pairs_of before) (me, k)) new there)
@@ -151,12 +151,12 @@ in_parts new (x ∷ xs) ys there =
     ]
 
 items_fresh : (n : ℕ) (before : List Event) (me : ℕ) (starts indices : List ℕ) (new : Name)
-    → IsIn new (numbers_in starts (items_at n before me (view_of before me) starts indices)) → (new.0 == 0) ≡ false → IsFresh n before me new
+    → IsIn new (numbers_in_items starts (items_at (moment_at n before me) starts indices)) → (new.0 == 0) ≡ false → IsFresh n before me new
 items_fresh n before me starts [] new there real = absurd there
 items_fresh n before me starts (i ∷ indices) new there real =
     let own : View = view_of before me in
     let k : ℕ = slice_index starts i in
-    elim (in_parts new (number_in k (got_of n before me own k (start_at own k))) (numbers_in starts (items_at n before me own starts indices)) there) [
+    elim (in_parts new (numbers_made k (got_of (moment_of n before me own) k (start_at own k))) (numbers_in_items starts (items_at (moment_of n before me own) starts indices)) there) [
       | inl here ↦ got_fresh n before me k (start_at own k) new refl here real
       | inr later ↦ items_fresh n before me starts indices new later real
     ]
@@ -179,7 +179,7 @@ peek_none call before true None = refl
 peek_none call before false None = refl
 
 taken_fresh : (n : ℕ) (before : List Event) (me : ℕ) (starts indices : List ℕ) (mode : TakeMode) (long : Option ℕ) (new : Name)
-    → IsIn new (numbers_in_reply (Take starts mode) (taken_reply me long (items_at n before me (view_of before me) starts indices)))
+    → IsIn new (numbers_in_reply (Take starts mode) (taken_reply me long (items_at (moment_at n before me) starts indices)))
     → (new.0 == 0) ≡ false → IsFresh n before me new
 taken_fresh n before me starts indices mode (Some k) new there real = absurd there
 taken_fresh n before me starts indices mode None new there real = items_fresh n before me starts indices new there real
@@ -187,12 +187,12 @@ taken_fresh n before me starts indices mode None new there real = items_fresh n 
 take_fresh : (condition : Bool) (n : ℕ) (before : List Event) (me : ℕ) (starts : List ℕ) (mode : TakeMode) (new : Name)
     → IsIn new (numbers_in_reply (Take starts mode)
     (if condition
-    then taken_reply me (first_long (view_of before me) starts (items_of n before me (view_of before me) starts mode)) (items_of n before me (view_of before me) starts mode)
+    then taken_reply me (first_long (view_of before me) starts (items_of (moment_at n before me) starts mode)) (items_of (moment_at n before me) starts mode)
     else held_reply (is_test mode)))
     → (new.0 == 0) ≡ false → IsFresh n before me new
 take_fresh true n before me starts mode new there real =
     let own : View = view_of before me in
-    taken_fresh n before me starts (chosen_places mode (flags_of n before me own starts)) mode (first_long own starts (items_of n before me own starts mode)) new there real
+    taken_fresh n before me starts (chosen_places mode (flags_of (moment_of n before me own) starts)) mode (first_long own starts (items_of (moment_of n before me own) starts mode)) new there real
 take_fresh false n before me starts mode new there real =
     let F : List Name → Type 0 = λ l. IsIn new l in
     absurd (subst F (held_none (Take starts mode) (is_test mode)) there)
@@ -200,7 +200,7 @@ take_fresh false n before me starts mode new there real =
 answer_fresh : (n : ℕ) (before : List Event) (me : ℕ) (call : Call) (new : Name)
     → IsIn new (numbers_in_reply call (chosen_answer n before me (view_of before me) call)) → (new.0 == 0) ≡ false → IsFresh n before me new
 answer_fresh n before me (Take starts mode) new there real =
-    take_fresh (holds mode (flags_of n before me (view_of before me) starts)) n before me starts mode new there real
+    take_fresh (mode_holds mode (flags_of (moment_at n before me) starts)) n before me starts mode new there real
 answer_fresh n before me (Peek comm source tag wait) new there real =
     let F : List Name → Type 0 = λ l. IsIn new l in
     absurd (subst F (peek_none (Peek comm source tag wait) before wait (choice before me (Peek comm source tag wait))) there)
@@ -250,8 +250,8 @@ numbers_more n before event chosen made all r c k there real =
     let own : View = view_of before r in
     let tail : View = view_of (event ∷ []) r in
     let split : view_of (before ++ event ∷ []) r ≡ own ++ tail = view_of-append before (event ∷ []) r in
-    let numbers : IsIn (c, k) (numbers_of own ++ numbers_of tail) = rw (split, numbers_of-append own tail) at there in
-    let has : HasOrigin old own c k = elim (in_parts (c, k) (numbers_of own) (numbers_of tail) numbers) [
+    let numbers : IsIn (c, k) (numbers_in_view own ++ numbers_in_view tail) = rw (split, numbers_of-append own tail) at there in
+    let has : HasOrigin old own c k = elim (in_parts (c, k) (numbers_in_view own) (numbers_in_view tail) numbers) [
       | inl was ↦ all r c k was real
       | inr now ↦ elim (test_cases (event.rank == r)) [
         | inl t ↦

@@ -16,7 +16,7 @@ use Rattle.mpi_call.specs.Collectives.{IsEnterOf, is_distinct, is_member, is_unc
 use Rattle.run_model.specs.Communicators.{Entered, known_first, known_in, learned, made_in_got, made_in_items, or_members}
 use Rattle.run_model.specs.Forms.{AreMembers, IsEnteredBy, IsInOrder}
 use Rattle.run_model.specs.Lists.{are_below, world}
-use Rattle.run_model.specs.Program.{AsksInBounds, EntersInForm, IsInForm, IsRankOf, IsSeen, IsViewOf}
+use Rattle.run_model.specs.Program.{AsksInBounds, EntersInForm, IsInForm, IsRankOf, IsNextSeen, IsViewOf}
 use Rattle.run_model.specs.Shape.{can_take, got_fits, gots_fit, has_count, has_shape}
 use Rattle.run_model.specs.Views.{Next, View, is_start, start_at, starts_of}
 use Rattle.run_model.proofs.MemberLists.{AreMembers-world}
@@ -184,27 +184,27 @@ pub record Came (next : Next) (n me : ℕ) (view : View) : Type 0 where
   pub came : IsViewOf next n me view
   pub order : IsInOrder n me view
 
-came_more : (next : Next) (n me : ℕ) → EntersInForm next → IsRankOf n me → (view : View) (seen : Call × Reply) → Came next n me view → IsSeen next n me view seen → Came next n me (view ++ seen ∷ [])
+came_more : (next : Next) (n me : ℕ) → EntersInForm next → IsRankOf n me → (view : View) (seen : Call × Reply) → Came next n me view → IsNextSeen next n me view seen → Came next n me (view ++ seen ∷ [])
 came_more next n me law rank view seen so_far is =
     record {
-      came = Along-snoc (IsSeen next n me) [] view seen so_far.came is;
+      came = Along-snoc (IsNextSeen next n me) [] view seen so_far.came is;
       order = in_order_more n me view seen.0 seen.1 so_far.order (law n me view seen.0 rank so_far.came is.asked) is.shaped;
     }
 
 -- a view that a lawful program's rank can come to
 pub in_order : (next : Next) (n me : ℕ) (view : View) → EntersInForm next → IsRankOf n me → IsViewOf next n me view → IsInOrder n me view
 in_order next n me view law rank came =
-    (Along-keeps (IsSeen next n me) (Came next n me) (came_more next n me law rank) [] view (record { came = tt; order = in_order_first n me rank.2 }) came).order
+    (Along-keeps (IsNextSeen next n me) (Came next n me) (came_more next n me law rank) [] view (record { came = tt; order = in_order_first n me rank.2 }) came).order
 
 -- its messages are in bounds
 record Short (next : Next) (n me : ℕ) (view : View) : Type 0 where
   pub came : IsViewOf next n me view
   pub sends : (k comm dest tag : ℕ) (ints : List ℤ) (sync : Bool) → start_at view k ≡ Some (Send comm dest tag ints sync) → length ints ≤ MOST_INTS
 
-short_more : (next : Next) (n me : ℕ) → AsksInBounds next → IsRankOf n me → (view : View) (seen : Call × Reply) → Short next n me view → IsSeen next n me view seen → Short next n me (view ++ seen ∷ [])
+short_more : (next : Next) (n me : ℕ) → AsksInBounds next → IsRankOf n me → (view : View) (seen : Call × Reply) → Short next n me view → IsNextSeen next n me view seen → Short next n me (view ++ seen ∷ [])
 short_more next n me law rank view seen so_far is =
     record {
-      came = Along-snoc (IsSeen next n me) [] view seen so_far.came is;
+      came = Along-snoc (IsNextSeen next n me) [] view seen so_far.came is;
       sends = λ k comm dest tag ints sync p. elim (start_back view seen.0 seen.1 k (Send comm dest tag ints sync) p) [
         | inl was ↦ so_far.sends k comm dest tag ints sync was
         | inr new ↦ (law n me view (Send comm dest tag ints sync) rank so_far.came (rw new at is.asked)).2
@@ -213,4 +213,4 @@ short_more next n me law rank view seen so_far is =
 
 pub short_sends : (next : Next) (n me : ℕ) (view : View) → AsksInBounds next → IsRankOf n me → IsViewOf next n me view → (k comm dest tag : ℕ) (ints : List ℤ) (sync : Bool) → start_at view k ≡ Some (Send comm dest tag ints sync) → length ints ≤ MOST_INTS
 short_sends next n me view law rank came =
-    (Along-keeps (IsSeen next n me) (Short next n me) (short_more next n me law rank) [] view (record { came = tt; sends = λ k comm dest tag ints sync p. absurd (cc) }) came).sends
+    (Along-keeps (IsNextSeen next n me) (Short next n me) (short_more next n me law rank) [] view (record { came = tt; sends = λ k comm dest tag ints sync p. absurd (cc) }) came).sends

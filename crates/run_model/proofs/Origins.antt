@@ -16,7 +16,7 @@ use Rattle.mpi_call.specs.Calls.{comm_of, is_enter, listed_by, makes}
 use Rattle.mpi_call.specs.Collectives.{agree, is_uncoloured, members_made}
 use Rattle.run_model.specs.declared.event.Event.{Event}
 use Rattle.run_model.specs.Allowed.{IsAllowed, IsAllowedBy, IsStuck}
-use Rattle.run_model.specs.Communicators.{Entered, enter_at, instance_of, is_on, known_after, known_first, known_in, learned, made_in_got, made_in_items, members_in, or_members}
+use Rattle.run_model.specs.Communicators.{Entered, enter_at, instance_of, is_on, known_after, known_first, known_in, learned, made_in_got, made_in_items, members_for_rank, or_members}
 use Rattle.run_model.specs.Due.{disagrees, due, halted, is_full, is_mismatched}
 use Rattle.run_model.specs.Inputs.{inputs_of}
 use Rattle.run_model.specs.Lists.{world}
@@ -24,8 +24,8 @@ use Rattle.run_model.specs.Pairs.{Name}
 use Rattle.run_model.specs.Program.{IsInForm}
 use Rattle.run_model.specs.Readiness.{AreGots, IsFrom, IsGot}
 use Rattle.mpi_call.specs.Lists.{IsIn}
-use Rattle.run_model.specs.Run.{IsEvent, number_in, numbers_in, numbers_in_reply, numbers_of}
-use Rattle.run_model.specs.Views.{Next, View, is_start, start_at, starts_of, view_of}
+use Rattle.run_model.specs.Run.{IsEvent, numbers_made, numbers_in_items, numbers_in_reply, numbers_in_view}
+use Rattle.run_model.specs.Views.{Next, View, is_start, moment_of, start_at, starts_of, view_of}
 use Rattle.run_model.proofs.Enters.{known_after-append, not_world, take_all}
 use Rattle.run_model.proofs.Instances.{Enters, IsIn-front, KeepsInstances, Provenance, numbers_of-append}
 use Rattle.run_model.proofs.TrueReplies.{IsTrueReply, allowed_true}
@@ -42,8 +42,8 @@ record FromItems (n : ℕ) (before : List Event) (own : View) (me comm : ℕ) (s
   makes_is : makes enter ≡ true
   coloured : is_uncoloured enter ≡ false
   gathered : inputs_of n (view_of before) me own k enter ≡ Ok inputs
-  given : members ≡ members_made enter (members_in n own (comm_of enter)) inputs me
-  number : IsIn (comm, k) (numbers_in starts items)
+  given : members ≡ members_made enter (members_for_rank n own (comm_of enter)) inputs me
+  number : IsIn (comm, k) (numbers_in_items starts items)
 
 IsIn-back : (a : Name) (xs ys : List Name) → IsIn a ys → IsIn a (xs ++ ys)
 IsIn-back a [] ys inside = inside
@@ -51,18 +51,18 @@ IsIn-back a (x ∷ xs) ys inside = inr (IsIn-back a xs ys inside)
 
 made_given : (m u : Bool) (n : ℕ) (own : View) (me : ℕ) (enter : Call) (inputs : List (List ℤ)) (c : ℕ) (members : List ℕ)
     → (c == 0) ≡ false → IsFrom m u n me own enter inputs (Made c members)
-    → (m ≡ true) × (u ≡ false) × (members ≡ members_made enter (members_in n own (comm_of enter)) inputs me)
+    → (m ≡ true) × (u ≡ false) × (members ≡ members_made enter (members_for_rank n own (comm_of enter)) inputs me)
 made_given true true n own me enter inputs c members real given =
     (let e : c ≡ 0 = cc in let t : (c == 0) ≡ true = eq-eqb c 0 e in let no : true ≡ false = sym t ∙ real in absurd (cc))
 made_given true false n own me enter inputs c members real given =
-    (let e : Made c members ≡ Made given.comm (members_made enter (members_in n own (comm_of enter)) inputs me) = given.got_is in
-    let same : members ≡ members_made enter (members_in n own (comm_of enter)) inputs me = cc in
+    (let e : Made c members ≡ Made given.comm (members_made enter (members_for_rank n own (comm_of enter)) inputs me) = given.got_is in
+    let same : members ≡ members_made enter (members_for_rank n own (comm_of enter)) inputs me = cc in
     (refl, refl, same))
 made_given false u n own me enter inputs c members real given = absurd (cc)
 
 from_got : (n : ℕ) (before : List Event) (own : View) (me k : ℕ) (start : Option Call) (c : ℕ) (members : List ℕ) (starts : List ℕ) (items : List Item)
-    → (c == 0) ≡ false → start_at own k ≡ start → IsGot n before me own k start (Made c members)
-    → IsIn (c, k) (numbers_in starts items) → FromItems n before own me c starts items members
+    → (c == 0) ≡ false → start_at own k ≡ start → IsGot (moment_of n before me own) k start (Made c members)
+    → IsIn (c, k) (numbers_in_items starts items) → FromItems n before own me c starts items members
 from_got n before own me k None c members starts items real at is number = absurd is
 from_got n before own me k (Some (Send comm dest tag ints sync)) c members starts items real at is number = absurd (let e : Made c members ≡ Sent = is in cc)
 from_got n before own me k (Some (Post comm Null tag room)) c members starts items real at is number = absurd (let e : Made c members ≡ Nothing = is in cc)
@@ -91,7 +91,7 @@ more_items n before own me comm starts item items members from =
       coloured = from.coloured;
       gathered = from.gathered;
       given = from.given;
-      number = IsIn-back (comm, from.k) (number_in (slice_index starts item.index) item.got) (numbers_in starts items) from.number;
+      number = IsIn-back (comm, from.k) (numbers_made (slice_index starts item.index) item.got) (numbers_in_items starts items) from.number;
     }
 
 made_cases : (comm : ℕ) (got : Got) (rest : Option (List ℕ)) (members : List ℕ)
@@ -111,17 +111,17 @@ made_cases comm (Message source start tag ints) rest members h = inr h
 made_cases comm (Joined ints) rest members h = inr h
 
 from_items : (n : ℕ) (before : List Event) (own : View) (me comm : ℕ) (starts : List ℕ) (items : List Item) (members : List ℕ)
-    → (comm == 0) ≡ false → AreGots n before me own starts items → made_in_items comm items ≡ Some members
+    → (comm == 0) ≡ false → AreGots (moment_of n before me own) starts items → made_in_items comm items ≡ Some members
     → FromItems n before own me comm starts items members
 from_items n before own me comm starts [] members real are h = absurd (cc)
 from_items n before own me comm starts (item ∷ items) members real are h =
     elim (made_cases comm item.got (made_in_items comm items) members h) [
       | inl e ↦ (
           let k : ℕ = slice_index starts item.index in
-          let F : Got → Type 0 = λ g. IsGot n before me own k (start_at own k) g in
-          let G : Got → Type 0 = λ g. IsIn (comm, k) (number_in k g) in
-          let first : IsIn (comm, k) (number_in k item.got) = subst G (sym e) (inl refl) in
-          let inside = IsIn-front (comm, k) (number_in k item.got) (numbers_in starts items) first in
+          let F : Got → Type 0 = λ g. IsGot (moment_of n before me own) k (start_at own k) g in
+          let G : Got → Type 0 = λ g. IsIn (comm, k) (numbers_made k g) in
+          let first : IsIn (comm, k) (numbers_made k item.got) = subst G (sym e) (inl refl) in
+          let inside = IsIn-front (comm, k) (numbers_made k item.got) (numbers_in_items starts items) first in
           from_got n before own me k (start_at own k) comm members starts (item ∷ items) real refl (subst F e are.0) inside)
       | inr later ↦ more_items n before own me comm starts item items members (from_items n before own me comm starts items members real are.1 later)
     ]
@@ -161,7 +161,7 @@ accepted_enter next n before me End reply comm is start on = absurd (cc)
 accepted_enter next n before me (Enter c kind root op count ints) reply comm is start on =
     let own : View = view_of before me in
     let call : Call = Enter c kind root op count ints in
-    let F : Option Halt → Type 0 = λ x. IsAllowedBy x (IsStuck next n before) n before me own call reply in (
+    let F : Option Halt → Type 0 = λ x. IsAllowedBy x (IsStuck next n before) (moment_of n before me own) call reply in (
       elim (option_cases (due n before me own call)) [
         | inl some ↦ (
             let stopped : reply ≡ Stopped some.0 = subst F some.1 is in
@@ -244,6 +244,6 @@ KeepsInstances-event next n before event all form step =
           let learned_now : learned comm None event.reply ≡ Some members = rw none at after in
           let true_reply = allowed_true (due n before event.rank own event.call) (IsStuck next n before) n before own event.rank event.call event.reply step.reply in
           let from = learned_from n before event.rank comm event.call event.reply members real true_reply learned_now in
-          record { from = from.0; number = rw (view_of-mine before event event.rank refl, numbers_of-append own ((event.call, event.reply) ∷ []), append-nil) (IsIn-back (comm, from.0.k) (numbers_of own) (numbers_in_reply event.call event.reply) from.1) });
+          record { from = from.0; number = rw (view_of-mine before event event.rank refl, numbers_of-append own ((event.call, event.reply) ∷ []), append-nil) (IsIn-back (comm, from.0.k) (numbers_in_view own) (numbers_in_reply event.call event.reply) from.1) });
       numbered = step.numbered;
     }

@@ -8,7 +8,7 @@ use Rattle.mpi_call.specs.declared.reply.Reply.TheVariants.{Done, NotYet, Peeked
 use Rattle.run_model.specs.declared.event.Event.{Event}
 use Rattle.run_model.specs.Lists.{world}
 use Rattle.run_model.specs.Pairs.{IsMatched}
-use Rattle.run_model.specs.Program.{EndsExactly, EntersInForm, IsRankOf, IsSeen, IsViewOf, ends}
+use Rattle.run_model.specs.Program.{EndsExactly, EntersInForm, IsRankOf, IsNextSeen, IsViewOf, ends}
 use Rattle.run_model.specs.Run.{IsEvent, IsRun}
 use Rattle.run_model.specs.Shape.{has_shape}
 use Rattle.run_model.specs.Views.{Next, View, replies_in, view_of}
@@ -27,7 +27,7 @@ pub record Lawful (next : Next) : Type 0 where
   pub ends : EndsExactly next
   pub enters : EntersInForm next
 
--- a beginning of a run is a run
+-- a prefix of a run is a run
 pub IsRun-front : (next : Next) (n : ℕ) (xs ys : List Event) → IsRun next n (xs ++ ys) → IsRun next n xs
 IsRun-front next n xs ys run = record { some = run.some; few = run.few; along = Along-front (IsEvent next n) [] xs ys run.along }
 
@@ -105,7 +105,7 @@ came_more next n before event rank came step shaped =
           let F : ℕ → Type 0 = λ r. IsViewOf next n r (view_of before r) → IsViewOf next n r (view_of (before ++ event ∷ []) r) in
           let own : F event.rank = λ here.
           rw (view_of-own before event)
-          (Along-snoc (IsSeen next n event.rank) [] (view_of before event.rank) (event.call, event.reply) here
+          (Along-snoc (IsNextSeen next n event.rank) [] (view_of before event.rank) (event.call, event.reply) here
           (record { asked = step.call; shaped = shaped })) in
           subst F (eqb-true event.rank rank h) own came)
       | inr h ↦ rw (view_of-other before event rank h) came

@@ -8,7 +8,7 @@ use Rattle.run_model.specs.Chosen.{IsChosenEvent, chosen_event, order_of}
 use Rattle.run_model.specs.Lists.{Along, IsPrefixOf, world}
 use Rattle.run_model.specs.MachineLaws.{OrderBeginsSerial, SerialEnds, TurnsFixSerial, has_stuck, is_stuck_reply}
 use Rattle.run_model.specs.Run.{IsEvent}
-use Rattle.run_model.specs.Serial.{IsSerial, Stage, appended, at_first, attempt, attempt_with, attempts, call_after, is_stuck, others_wait, rounds}
+use Rattle.run_model.specs.Serial.{IsSerial, Stage, with_chosen_event, first_stage, attempt, attempt_with, attempts, call_after, is_stuck, others_wait, rounds}
 use Rattle.run_model.specs.Views.{Next, view_of}
 use Rattle.run_model.proofs.ChosenLaws.{cannot_go}
 use Rattle.run_model.proofs.Prefixes.{prefix_append, prefix_refl, prefix_trans}
@@ -61,16 +61,16 @@ rounds_more next n (suc count) more stage =
 
 -- a serial run stays as it is in further rounds
 settled : (next : Next) (n : ℕ) (turns : List ℕ) (events : List Event) (s : IsSerial next n turns events) (more : ℕ)
-    → (rounds next n (s.count + more) (attempts next n at_first turns)).events ≡ events
+    → (rounds next n (s.count + more) (attempts next n first_stage turns)).events ≡ events
 settled next n turns events s more =
-    let last : Stage = rounds next n s.count (attempts next n at_first turns) in
+    let last : Stage = rounds next n s.count (attempts next n first_stage turns) in
     let none : (rank : ℕ) → rank < n → call_after next n last.events rank ≡ None =
     λ rank below. ap (λ l. call_after next n l rank) s.made ∙ s.ended rank below in
-    ap (λ (x : Stage). x.events) (rounds_more next n s.count more (attempts next n at_first turns) ∙ idle_rounds next n more last none) ∙ s.made
+    ap (λ (x : Stage). x.events) (rounds_more next n s.count more (attempts next n first_stage turns) ∙ idle_rounds next n more last none) ∙ s.made
 
 pub turns_fix_serial : (next : Next) (n : ℕ) → TurnsFixSerial next n
 turns_fix_serial next n turns one other s t =
-    let first : Stage = attempts next n at_first turns in
+    let first : Stage = attempts next n first_stage turns in
     let flip : s.count + t.count ≡ t.count + s.count = omega arith in
     sym (settled next n turns one s t.count) ∙ (ap (λ c. (rounds next n c first).events) flip ∙ settled next n turns other t s.count)
 
@@ -82,7 +82,7 @@ serial_ends next n lawful turns events s run rank below =
 
 -- an attempt of a call that can go
 went : (next : Next) (n : ℕ) (stage : Stage) (rank : ℕ) (call : Call) → can_go n stage.events rank (view_of stage.events rank) call ≡ true
-    → attempt_with next n stage rank (Some call) ≡ appended n stage rank call
+    → attempt_with next n stage rank (Some call) ≡ with_chosen_event n stage rank call
 went next n stage rank call goes = rw goes
 
 -- turns in the order of a run of the machine make it again
@@ -110,7 +110,7 @@ follow next n before (event ∷ run) waiting events chosen free =
 
 pub order_begins_serial : (next : Next) (n : ℕ) → OrderBeginsSerial next n
 order_begins_serial next n run events chosen free s =
-    let first : Stage = attempts next n at_first (order_of run) in
+    let first : Stage = attempts next n first_stage (order_of run) in
     let same : first.events ≡ run = follow next n [] run [] chosen.run.along chosen.along free in
     let longer = rounds_grow next n s.count first in
     (longer.0, ap (λ l. l ++ longer.0) (sym same) ∙ (longer.1 ∙ s.made))

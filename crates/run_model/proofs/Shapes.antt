@@ -25,15 +25,15 @@ use Rattle.mpi_call.specs.Halts.{fault_number}
 use Rattle.mpi_call.proofs.MadeLemmas.{int_eq-itself}
 use Rattle.mpi_call.proofs.ResultLemmas.{length-result_of}
 use Rattle.run_model.specs.declared.event.Event.{Event}
-use Rattle.run_model.specs.Allowed.{IsAllowed, IsAllowedBy, IsHeld, IsPeekAnswer, IsStuck, IsTakeAnswer, first_long, flags_of, has_open, holds, is_long, taken_reply}
-use Rattle.run_model.specs.Communicators.{members_in}
+use Rattle.run_model.specs.Allowed.{IsAllowed, IsAllowedBy, IsHeld, IsPeekAnswer, IsStuck, IsTakeAnswer, first_long, flags_of, has_open, mode_holds, is_long, probe_of, taken_reply}
+use Rattle.run_model.specs.Communicators.{members_for_rank}
 use Rattle.run_model.specs.Due.{bad_request, due, halt_at, halted, is_full, is_mismatched}
 use Rattle.run_model.specs.Inputs.{inputs_of}
 use Rattle.run_model.specs.Lists.{same_ranks}
 use Rattle.run_model.specs.Pairs.{IsMatched}
 use Rattle.run_model.specs.Readiness.{AreGots, IsFrom, IsGot, IsMessage}
 use Rattle.run_model.specs.Shape.{got_fits, gots_fit, halt_fits, has_count, has_shape, is_dup, is_test}
-use Rattle.run_model.specs.Views.{Next, View, start_at, view_of}
+use Rattle.run_model.specs.Views.{Next, View, moment_at, moment_of, start_at, view_of}
 use Rattle.run_model.proofs.Halts.{names}
 use Rattle.run_model.proofs.Instances.{SameInstances, input_own, inputs_fit, own_enter}
 use Rattle.run_model.proofs.Matched.{accepts-parts, taken_pair}
@@ -98,7 +98,7 @@ dup_same End members inputs me = refl
 new_shaped : (n me c : ℕ) (own : View) (comm : ℕ) (kind : Kind) (root : Option ℕ) (op : Option Op) (count : ℕ) (ints : List ℤ) (made : List ℕ)
     → makes (Enter comm kind root op count ints) ≡ true → is_uncoloured (Enter comm kind root op count ints) ≡ false
     → (c == 0) ≡ false → AreMembers n me made
-    → (not (is_dup (Enter comm kind root op count ints)) || same_ranks (members_in n own comm) made) ≡ true
+    → (not (is_dup (Enter comm kind root op count ints)) || same_ranks (members_for_rank n own comm) made) ≡ true
     → got_fits n me own (Some (Enter comm kind root op count ints)) (Made c made) ≡ true
 new_shaped n me c own comm kind root op count ints [] makes_is coloured real are dup = absurd (let no : false ≡ true = are.has_me in cc)
 new_shaped n me c own comm kind root op count ints (m ∷ made) makes_is coloured real are dup = rw (makes_is, coloured, real, are.below, are.distinct, are.has_me, dup)
@@ -116,15 +116,15 @@ collected_shaped n before me k comm kind root op count ints got true false input
     let mine = own_enter n (view_of before) me k enter of.same at refl in
     let old = of.same.fine me comm mine.members of.below mine.known in
     let F : List ℕ → Type 0 = λ l. AreMembers n me l in
-    let are : AreMembers n me (members_in n own comm) = subst F (sym mine.all) old in
+    let are : AreMembers n me (members_for_rank n own comm) = subst F (sym mine.all) old in
     let input = input_own n (view_of before) me k enter inputs of.same at refl gathered are.has_me in
-    let made = AreMembers-made n me enter (members_in n own comm) inputs makes_is un are input in
+    let made = AreMembers-made n me enter (members_for_rank n own comm) inputs makes_is un are input in
     rw given.got_is
-    (new_shaped n me given.comm own comm kind root op count ints (members_made enter (members_in n own comm) inputs me) makes_is un given.is_new made (dup_same enter (members_in n own comm) inputs me))
+    (new_shaped n me given.comm own comm kind root op count ints (members_made enter (members_for_rank n own comm) inputs me) makes_is un given.is_new made (dup_same enter (members_for_rank n own comm) inputs me))
 collected_shaped n before me k comm kind root op count ints got false u inputs of at gathered makes_is un given =
     let enter : Call = Enter comm kind root op count ints in
     let own : View = view_of before me in
-    let M : List ℕ = members_in n own comm in
+    let M : List ℕ = members_for_rank n own comm in
     let mine = own_enter n (view_of before) me k enter of.same at refl in
     let old = of.same.fine me comm mine.members of.below mine.known in
     let F : List ℕ → Type 0 = λ l. is_member l me ≡ true in
@@ -136,7 +136,7 @@ collected_shaped n before me k comm kind root op count ints got false u inputs o
     rw (given, makes_is, sized)
 
 got_shaped : (n : ℕ) (before : List Event) (me k : ℕ) (start : Option Call) (got : Got) → IsMatched before → Collects n before me
-    → start_at (view_of before me) k ≡ start → IsGot n before me (view_of before me) k start got → is_long start got ≡ false
+    → start_at (view_of before me) k ≡ start → IsGot (moment_at n before me) k start got → is_long start got ≡ false
     → got_fits n me (view_of before me) start got ≡ true
 got_shaped n before me k None got matched of at is short = absurd is
 got_shaped n before me k (Some (Send comm dest tag ints sync)) got matched of at is short = rw is
@@ -152,7 +152,7 @@ got_shaped n before me k (Some (Trap fault)) got matched of at is short = absurd
 got_shaped n before me k (Some End) got matched of at is short = absurd is
 
 gots_shaped : (n : ℕ) (before : List Event) (me : ℕ) (starts : List ℕ) (items : List Item) → IsMatched before
-    → Collects n before me → AreGots n before me (view_of before me) starts items
+    → Collects n before me → AreGots (moment_at n before me) starts items
     → first_long (view_of before me) starts items ≡ None → gots_fit n me (view_of before me) starts items ≡ true
 gots_shaped n before me starts [] matched of are short = refl
 gots_shaped n before me starts (item ∷ items) matched of are short =
@@ -193,7 +193,7 @@ taken_shaped : (n : ℕ) (before : List Event) (me : ℕ) (starts : List ℕ) (m
     → IsMatched before → Collects n before me → bad_request (view_of before me) [] starts ≡ None
     → first_long (view_of before me) starts items ≡ long → reply ≡ taken_reply me long items
     → ChosenFits mode (length starts) (map (λ (item : Item). item.index) items)
-    → AreGots n before me (view_of before me) starts items → has_shape n me (view_of before me) (Take starts mode) reply ≡ true
+    → AreGots (moment_at n before me) starts items → has_shape n me (view_of before me) (Take starts mode) reply ≡ true
 taken_shaped n before me starts mode None items reply matched of good short is chosen gots =
     let own : View = view_of before me in
     let count : has_count mode (length starts) (length items) ≡ true = simp length-map at chosen.count in
@@ -203,19 +203,19 @@ taken_shaped n before me starts mode (Some k) items reply matched of good long i
 
 take_shaped : (n : ℕ) (before : List Event) (me : ℕ) (starts : List ℕ) (mode : TakeMode) (condition : Bool) (stuck : Type 0) (reply : Reply)
     → IsMatched before → Collects n before me → bad_request (view_of before me) [] starts ≡ None
-    → holds mode (flags_of n before me (view_of before me) starts) ≡ condition
-    → IsTakeAnswer condition stuck n before me (view_of before me) starts mode reply
+    → mode_holds mode (flags_of (moment_at n before me) starts) ≡ condition
+    → IsTakeAnswer condition stuck (moment_at n before me) starts mode reply
     → has_shape n me (view_of before me) (Take starts mode) reply ≡ true
 take_shaped n before me starts mode true stuck reply matched of good h is =
     let own : View = view_of before me in
-    let chosen = chosen_fit mode (flags_of n before me own starts) (map (λ (item : Item). item.index) is.items) is.chosen h in
+    let chosen = chosen_fit mode (flags_of (moment_of n before me own) starts) (map (λ (item : Item). item.index) is.items) is.chosen h in
     let by_length : ChosenFits mode (length starts) (map (λ (item : Item). item.index) is.items) = simp length-map at chosen in
     taken_shaped n before me starts mode (first_long own starts is.items) is.items reply matched of good refl is.reply_is by_length is.gots
 take_shaped n before me starts mode false stuck reply matched of good h is =
     held_take n me (view_of before me) starts mode (is_test mode) stuck reply refl is
 
 peek_shaped : (n : ℕ) (before : List Event) (own : View) (me comm : ℕ) (source : Source) (tag : Tag) (wait found : Bool) (stuck : Type 0) (reply : Reply)
-    → IsPeekAnswer found stuck before me comm source tag wait reply → has_shape n me own (Peek comm source tag wait) reply ≡ true
+    → IsPeekAnswer found stuck before (probe_of me comm source tag) wait reply → has_shape n me own (Peek comm source tag wait) reply ≡ true
 peek_shaped n before own me comm source tag wait true stuck reply is =
     let agrees = accepts-parts me comm source tag is.send.0 is.c is.dest is.t is.ints is.sync is.accepted in
     rw (is.reply_is, agrees.source_is, agrees.tag_is)
@@ -224,49 +224,49 @@ peek_shaped n before own me comm source tag wait false stuck reply is = held_pee
 -- a call that no earlier halt and no bound stops
 answer_shaped : (n : ℕ) (before : List Event) (me : ℕ) (call : Call) (halt : Option Halt) (stuck : Type 0) (reply : Reply)
     → IsMatched before → Collects n before me → halt_at n before me (view_of before me) call ≡ halt
-    → IsAllowedBy halt stuck n before me (view_of before me) call reply → has_shape n me (view_of before me) call reply ≡ true
+    → IsAllowedBy halt stuck (moment_at n before me) call reply → has_shape n me (view_of before me) call reply ≡ true
 answer_shaped n before me (Send comm dest tag ints sync) halt stuck reply matched of h is =
-    let F : Option Halt → Type 0 = λ x. IsAllowedBy x stuck n before me (view_of before me) (Send comm dest tag ints sync) reply in
+    let F : Option Halt → Type 0 = λ x. IsAllowedBy x stuck (moment_at n before me) (Send comm dest tag ints sync) reply in
     let none : None ≡ halt = h in
     let done : reply ≡ Done = subst F (sym none) is in
     rw done
 answer_shaped n before me (Post comm source tag room) halt stuck reply matched of h is =
-    let F : Option Halt → Type 0 = λ x. IsAllowedBy x stuck n before me (view_of before me) (Post comm source tag room) reply in
+    let F : Option Halt → Type 0 = λ x. IsAllowedBy x stuck (moment_at n before me) (Post comm source tag room) reply in
     let none : None ≡ halt = h in
     let done : reply ≡ Done = subst F (sym none) is in
     rw done
 answer_shaped n before me End halt stuck reply matched of h is =
-    let F : Option Halt → Type 0 = λ x. IsAllowedBy x stuck n before me (view_of before me) End reply in
+    let F : Option Halt → Type 0 = λ x. IsAllowedBy x stuck (moment_at n before me) End reply in
     let none : None ≡ halt = h in
     let done : reply ≡ Done = subst F (sym none) is in
     rw done
 answer_shaped n before me (Abort code) halt stuck reply matched of h is =
-    let F : Option Halt → Type 0 = λ x. IsAllowedBy x stuck n before me (view_of before me) (Abort code) reply in
+    let F : Option Halt → Type 0 = λ x. IsAllowedBy x stuck (moment_at n before me) (Abort code) reply in
     stopped_shaped n me (view_of before me) (Abort code) (Aborted me code) reply (subst F (sym h) is) (or_right _ _ (int_eq-itself code))
 answer_shaped n before me (Trap fault) halt stuck reply matched of h is =
-    let F : Option Halt → Type 0 = λ x. IsAllowedBy x stuck n before me (view_of before me) (Trap fault) reply in
+    let F : Option Halt → Type 0 = λ x. IsAllowedBy x stuck (moment_at n before me) (Trap fault) reply in
     stopped_shaped n me (view_of before me) (Trap fault) (Trapped me fault) reply (subst F (sym h) is) (or_right _ _ (eq-eqb (fault_number fault) (fault_number fault) refl))
 answer_shaped n before me (Peek comm source tag wait) halt stuck reply matched of h is =
-    let F : Option Halt → Type 0 = λ x. IsAllowedBy x stuck n before me (view_of before me) (Peek comm source tag wait) reply in
+    let F : Option Halt → Type 0 = λ x. IsAllowedBy x stuck (moment_at n before me) (Peek comm source tag wait) reply in
     let none : None ≡ halt = h in
     peek_shaped n before (view_of before me) me comm source tag wait (has_open n before me comm source tag) stuck reply (subst F (sym none) is)
 answer_shaped n before me (Enter comm kind root op count ints) halt stuck reply matched of h is =
     let own : View = view_of before me in
-    let F : Option Halt → Type 0 = λ x. IsAllowedBy x stuck n before me own (Enter comm kind root op count ints) reply in
+    let F : Option Halt → Type 0 = λ x. IsAllowedBy x stuck (moment_of n before me own) (Enter comm kind root op count ints) reply in
     elim (test_cases (is_mismatched n before own (Enter comm kind root op count ints))) [
       | inl t ↦ (let some : Some (Mismatched me) ≡ halt = rw t at h in stopped_shaped n me own (Enter comm kind root op count ints) (Mismatched me) reply (subst F (sym some) is) (or_right _ _ refl))
       | inr t ↦ (let none : None ≡ halt = rw t at h in let done : reply ≡ Done = subst F (sym none) is in rw done)
     ]
 answer_shaped n before me (Take starts mode) halt stuck reply matched of h is =
     let own : View = view_of before me in
-    let F : Option Halt → Type 0 = λ x. IsAllowedBy x stuck n before me own (Take starts mode) reply in
+    let F : Option Halt → Type 0 = λ x. IsAllowedBy x stuck (moment_of n before me own) (Take starts mode) reply in
     elim (option_cases (bad_request own [] starts)) [
       | inl bad ↦ (
           let some : Some (BadRequest me bad.0) ≡ halt = rw bad.1 at h in
           stopped_shaped n me own (Take starts mode) (BadRequest me bad.0) reply (subst F (sym some) is) (or_right _ _ (bad_listed own [] starts bad.0 bad.1)))
       | inr good ↦ (
           let none : None ≡ halt = rw good at h in
-          take_shaped n before me starts mode (holds mode (flags_of n before me own starts)) stuck reply matched of good refl (subst F (sym none) is))
+          take_shaped n before me starts mode (mode_holds mode (flags_of (moment_of n before me own) starts)) stuck reply matched of good refl (subst F (sym none) is))
     ]
 
 -- the halt so far does not name the rank
@@ -278,7 +278,7 @@ pub allowed_shaped : (next : Next) (n : ℕ) (before : List Event) (me : ℕ) (c
     → has_shape n me (view_of before me) call reply ≡ true
 allowed_shaped next n before me call reply matched of unnamed is =
     let own : View = view_of before me in
-    let F : Option Halt → Type 0 = λ x. IsAllowedBy x (IsStuck next n before) n before me own call reply in
+    let F : Option Halt → Type 0 = λ x. IsAllowedBy x (IsStuck next n before) (moment_of n before me own) call reply in
     elim (option_cases (halted before)) [
       | inl some ↦ (
           let e : due n before me own call ≡ Some some.0 = rw some.1 in

@@ -7,7 +7,7 @@ use Rattle.mpi_call.specs.declared.call.TakeMode.{TakeMode}
 use Rattle.mpi_call.specs.declared.call.TakeMode.TheVariants.{All, Any as AnyOne, Several, TestAll, TestAny, TestSeveral}
 use Rattle.mpi_call.specs.declared.reply.Item.{Item}
 use Rattle.mpi_call.specs.Collectives.{is_member}
-use Rattle.run_model.specs.Allowed.{AreChosen, IsOne, first_long, holds, is_long, true_places}
+use Rattle.run_model.specs.Allowed.{AreChosen, IsOne, first_long, mode_holds, is_long, true_places}
 use Rattle.run_model.specs.Due.{bad_request}
 use Rattle.run_model.specs.Shape.{can_take, has_count, rise_within}
 use Rattle.run_model.specs.Views.{View, start_at, taken_of}
@@ -58,7 +58,7 @@ some_fit : (mode : TakeMode) (flags : List Bool) (indices : List ℕ) → indice
 some_fit mode flags indices e h counts =
     record { count = rw e (counts (length flags) (length (true_places 0 flags)) (some_places 0 flags h)); rising = rw e (rises_places 0 0 (length flags) flags (omega arith) (omega arith)) }
 
-pub chosen_fit : (mode : TakeMode) (flags : List Bool) (indices : List ℕ) → AreChosen mode flags indices → holds mode flags ≡ true
+pub chosen_fit : (mode : TakeMode) (flags : List Bool) (indices : List ℕ) → AreChosen mode flags indices → mode_holds mode flags ≡ true
     → ChosenFits mode (length flags) indices
 chosen_fit All flags indices e h = all_fit All flags indices e h (λ n. eq-eqb n n refl)
 chosen_fit TestAll flags indices e h = all_fit TestAll flags indices e h (λ n. eq-eqb n n refl)

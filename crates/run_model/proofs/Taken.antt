@@ -19,12 +19,12 @@ use Rattle.mpi_call.specs.Calls.{listed_by}
 use Rattle.mpi_call.specs.Members.{is_distinct, is_member}
 use Rattle.mpi_call.proofs.MemberLemmas.{is_member_at}
 use Rattle.run_model.specs.declared.event.Event.{Event}
-use Rattle.run_model.specs.Allowed.{IsAllowed, IsAllowedBy, IsAnswer, IsHeld, IsPeekAnswer, IsStuck, IsTakeAnswer, first_long, flags_of, has_open, holds, taken_reply}
+use Rattle.run_model.specs.Allowed.{IsAllowed, IsAllowedBy, IsAnswer, IsHeld, IsPeekAnswer, IsStuck, IsTakeAnswer, first_long, flags_of, has_open, mode_holds, probe_of, taken_reply}
 use Rattle.run_model.specs.Due.{bad_halt, bad_request, due, halt_at, halted, is_full, or_else}
 use Rattle.run_model.specs.Readiness.{AreGots}
 use Rattle.run_model.specs.Run.{IsEvent, IsRun}
 use Rattle.run_model.specs.Shape.{is_test, rise_within}
-use Rattle.run_model.specs.Views.{Next, View, items_taken, start_at, taken_of, view_of}
+use Rattle.run_model.specs.Views.{Next, View, items_taken, moment_at, moment_of, start_at, taken_of, view_of}
 use Rattle.run_model.proofs.Halts.{is_stopped}
 use Rattle.run_model.proofs.Positions.{longer}
 use Rattle.run_model.proofs.RunLaws.{IsRun-event}
@@ -162,7 +162,7 @@ nothing_due : (next : Next) (n : ℕ) (before : List Event) (me : ℕ) (call : C
     → is_stopped reply ≡ false → due n before me (view_of before me) call ≡ None
 nothing_due next n before me call reply is going =
     let own : View = view_of before me in
-    let F : Option Halt → Type 0 = λ x. IsAllowedBy x (IsStuck next n before) n before me own call reply in
+    let F : Option Halt → Type 0 = λ x. IsAllowedBy x (IsStuck next n before) (moment_of n before me own) call reply in
     elim (option_cases (due n before me own call)) [
       | inl some ↦ (
           let stopped : reply ≡ Stopped some.0 = subst F some.1 is in
@@ -188,7 +188,7 @@ good_request n before me starts mode free =
 -- the items of a reply are those that were chosen of its call's starts
 record AreOf (n : ℕ) (before : List Event) (me : ℕ) (starts : List ℕ) (items : List Item) : Type 0 where
   rising : rise_within 0 (length starts) (indices_of items) ≡ true
-  gots : AreGots n before me (view_of before me) starts items
+  gots : AreGots (moment_at n before me) starts items
 
 chosen_items : (me : ℕ) (long : Option ℕ) (chosen items : List Item) → Took items ≡ taken_reply me long chosen → chosen ≡ items
 chosen_items me None chosen items h = cc
@@ -199,16 +199,16 @@ held_takes true stuck items is = cc
 held_takes false stuck items is = (let no = is.1 in cc)
 
 take_of : (condition : Bool) (stuck : Type 0) (n : ℕ) (before : List Event) (me : ℕ) (starts : List ℕ) (mode : TakeMode) (items : List Item)
-    → holds mode (flags_of n before me (view_of before me) starts) ≡ condition → IsTakeAnswer condition stuck n before me (view_of before me) starts mode (Took items)
+    → mode_holds mode (flags_of (moment_at n before me) starts) ≡ condition → IsTakeAnswer condition stuck (moment_at n before me) starts mode (Took items)
     → AreOf n before me starts items
 take_of true stuck n before me starts mode items condition is =
     let own : View = view_of before me in
-    let flags : List Bool = flags_of n before me own starts in
+    let flags : List Bool = flags_of (moment_of n before me own) starts in
     let same : is.items ≡ items = chosen_items me (first_long own starts is.items) is.items items is.reply_is in
     let as_many : length flags ≡ length starts = length-map starts (λ k. _) in
     let L : ℕ → Type 0 = λ len. rise_within 0 len (indices_of is.items) ≡ true in
     let F : List Item → Type 0 = λ l. rise_within 0 (length starts) (indices_of l) ≡ true in
-    let G : List Item → Type 0 = λ l. AreGots n before me own starts l in
+    let G : List Item → Type 0 = λ l. AreGots (moment_of n before me own) starts l in
     record {
       rising = subst F same (subst L as_many (chosen_fit mode flags (indices_of is.items) is.chosen condition).rising);
       gots = subst G same is.gots;
@@ -216,22 +216,22 @@ take_of true stuck n before me starts mode items condition is =
 take_of false stuck n before me starts mode items condition is = absurd (held_takes (is_test mode) stuck items is)
 
 peek_takes : (found : Bool) (stuck : Type 0) (before : List Event) (me comm : ℕ) (source : Source) (tag : Tag) (wait : Bool) (items : List Item)
-    → IsPeekAnswer found stuck before me comm source tag wait (Took items) → ⊥
+    → IsPeekAnswer found stuck before (probe_of me comm source tag) wait (Took items) → ⊥
 peek_takes true stuck before me comm source tag wait items is = (let no = is.reply_is in cc)
 peek_takes false stuck before me comm source tag wait items is = held_takes (not wait) stuck items is
 
 -- what is known of the items of a reply
 pub record AreTaken (n : ℕ) (before : List Event) (me : ℕ) (starts : List ℕ) (items : List Item) : Type 0 where
-  pub gots : AreGots n before me (view_of before me) starts items
+  pub gots : AreGots (moment_at n before me) starts items
   pub once : is_distinct (items_taken starts items) ≡ true
   pub few : length items ≤ length starts
   pub fresh : (k : ℕ) → is_member (items_taken starts items) k ≡ true → is_member (taken_of (view_of before me)) k ≡ false
 
 are_taken : (stuck : Type 0) (n : ℕ) (before : List Event) (me : ℕ) (call : Call) (items : List Item) → due n before me (view_of before me) call ≡ None
-    → IsAnswer stuck n before me (view_of before me) call (Took items) → AreTaken n before me (listed_by call) items
+    → IsAnswer stuck (moment_at n before me) call (Took items) → AreTaken n before me (listed_by call) items
 are_taken stuck n before me (Take starts mode) items free is =
     let own : View = view_of before me in
-    let of = take_of (holds mode (flags_of n before me own starts)) stuck n before me starts mode items refl is in
+    let of = take_of (mode_holds mode (flags_of (moment_of n before me own) starts)) stuck n before me starts mode items refl is in
     let listed = listed_once own [] starts (good_request n before me starts mode free) in
     let many = few_items (length starts) 0 items (omega arith) of.rising in
     record {
@@ -257,7 +257,7 @@ reply_taken next n before event items step took =
     let A : Reply → Type 0 = λ reply. IsAllowed next n before me event.call reply in
     let allowed : A (Took items) = subst A took step.reply in
     let free = nothing_due next n before me event.call (Took items) allowed refl in
-    let F : Option Halt → Type 0 = λ x. IsAllowedBy x (IsStuck next n before) n before me own event.call (Took items) in
+    let F : Option Halt → Type 0 = λ x. IsAllowedBy x (IsStuck next n before) (moment_of n before me own) event.call (Took items) in
     are_taken (IsStuck next n before) n before me event.call items free (subst F free allowed)
 
 -- 4. runs

@@ -18,15 +18,15 @@ use Rattle.mpi_call.specs.declared.reply.Reply.TheVariants.{Done, Took, NotYet, 
 use Rattle.mpi_call.specs.Acceptance.{accepts}
 use Rattle.run_model.specs.declared.event.Event.{Event}
 use Rattle.run_model.specs.Lists.{world}
-use Rattle.run_model.specs.Views.{View, Next, view_of, replies_in, starts_of, start_at}
+use Rattle.run_model.specs.Views.{Moment, View, Next, moment_at, moment_of, view_of, replies_in, starts_of, start_at}
 use Rattle.run_model.specs.Pairs.{Name, named, pairs_of, partner_of}
 use Rattle.run_model.specs.Shape.{is_test}
 use Rattle.run_model.specs.Readiness.{is_ready, AreGots}
 use Rattle.run_model.specs.Due.{due}
 
 -- for each listed start, whether it is ready
-abbrev pub flags_of : ℕ → List Event → ℕ → View → List ℕ → List Bool
-flags_of n before me own starts = map (λ k. is_ready n before me own k (start_at own k)) starts
+abbrev pub flags_of : Moment → List ℕ → List Bool
+flags_of moment starts = map (λ k. is_ready moment k (start_at moment.own k)) starts
 
 -- the modes that complete all listed starts
 abbrev pub takes_all : TakeMode → Bool
@@ -35,8 +35,8 @@ takes_all TestAll = true
 takes_all mode = false
 
 -- a mode's condition: every listed start is ready, or one is
-abbrev pub holds : TakeMode → List Bool → Bool
-holds mode flags = if takes_all mode then list_all (λ x. x) flags else list_any (λ x. x) flags
+abbrev pub mode_holds : TakeMode → List Bool → Bool
+mode_holds mode flags = if takes_all mode then list_all (λ x. x) flags else list_any (λ x. x) flags
 
 -- the places of the flags that are true, rising; the first flag has place `at`
 abbrev pub true_places : ℕ → List Bool → List ℕ
@@ -71,14 +71,25 @@ taken_reply me None items = Took items
 taken_reply me (Some k) items = Stopped (Truncated me k)
 
 -- the reply to a completion whose condition holds
-pub record IsTaken (n : ℕ) (before : List Event) (me : ℕ) (own : View) (starts : List ℕ) (mode : TakeMode) (reply : Reply) : Type 0 where
+pub record IsCompletionReply (moment : Moment) (starts : List ℕ) (mode : TakeMode) (reply : Reply) : Type 0 where
   pub items : List Item
-  pub chosen : AreChosen mode (flags_of n before me own starts) (map (λ (item : Item). item.index) items)
-  pub gots : AreGots n before me own starts items
-  pub reply_is : reply ≡ taken_reply me (first_long own starts items) items
+  pub chosen : AreChosen mode (flags_of moment starts) (map (λ (item : Item). item.index) items)
+  pub gots : AreGots moment starts items
+  pub reply_is : reply ≡ taken_reply moment.me (first_long moment.own starts items) items
+
+-- what a probe looks for: the rank that asks, the communicator, and the source and tag that it names
+pub record Probe : Type 0 where
+  pub me : ℕ
+  pub comm : ℕ
+  pub source : Source
+  pub tag : Tag
+
+-- the probe with these parts
+abbrev pub probe_of : ℕ → ℕ → Source → Tag → Probe
+probe_of me comm source tag = record { me = me; comm = comm; source = source; tag = tag }
 
 -- a probe finds an unpaired Send that it accepts, with no earlier unpaired one of that sender that it accepts
-pub record IsPeeked (before : List Event) (me comm : ℕ) (source : Source) (tag : Tag) (reply : Reply) : Type 0 where
+pub record IsPeeked (before : List Event) (probe : Probe) (reply : Reply) : Type 0 where
   pub send : Name
   pub c : ℕ
   pub dest : ℕ
@@ -86,26 +97,26 @@ pub record IsPeeked (before : List Event) (me comm : ℕ) (source : Source) (tag
   pub ints : List ℤ
   pub sync : Bool
   pub sent : named before send ≡ Some (Send c dest t ints sync)
-  pub accepted : accepts me comm source tag send.0 (Send c dest t ints sync) ≡ true
+  pub accepted : accepts probe.me probe.comm probe.source probe.tag send.0 (Send c dest t ints sync) ≡ true
   pub unpaired : partner_of (pairs_of before) send ≡ None
-  pub first : (start : ℕ) (call : Call) → start < send.1 → named before (send.0, start) ≡ Some call → accepts me comm source tag send.0 call ≡ true → IsTrue (is_some (partner_of (pairs_of before) (send.0, start)))
+  pub first : (start : ℕ) (call : Call) → start < send.1 → named before (send.0, start) ≡ Some call → accepts probe.me probe.comm probe.source probe.tag send.0 call ≡ true → IsTrue (is_some (partner_of (pairs_of before) (send.0, start)))
   pub reply_is : reply ≡ Peeked send.0 send.1 t (length ints)
 
 -- among these starts of a sender, numbered from `start` on, is an unpaired Send that the probe accepts
-abbrev pub open_in : List (Name × Name) → ℕ → ℕ → Source → Tag → ℕ → ℕ → List Call → Bool
-open_in pairs me comm source tag sender start [] = false
-open_in pairs me comm source tag sender start (call ∷ calls) =
-    (accepts me comm source tag sender call && not (is_some (partner_of pairs (sender, start))))
-    || open_in pairs me comm source tag sender (start + 1) calls
+abbrev pub open_in : List (Name × Name) → Probe → ℕ → ℕ → List Call → Bool
+open_in pairs probe sender start [] = false
+open_in pairs probe sender start (call ∷ calls) =
+    (accepts probe.me probe.comm probe.source probe.tag sender call && not (is_some (partner_of pairs (sender, start))))
+    || open_in pairs probe sender (start + 1) calls
 
 -- there is an unpaired Send that the probe accepts
 abbrev pub has_open : ℕ → List Event → ℕ → ℕ → Source → Tag → Bool
 has_open n before me comm source tag =
-    list_any (λ sender. open_in (pairs_of before) me comm source tag sender 0 (starts_of (view_of before sender))) (world n 0)
+    list_any (λ sender. open_in (pairs_of before) (probe_of me comm source tag) sender 0 (starts_of (view_of before sender))) (world n 0)
 
 -- where no halt is due, the call is answered at once, other than by Stuck
 abbrev pub is_prompt : ℕ → List Event → ℕ → View → Call → Bool
-is_prompt n before me own (Take starts mode) = is_test mode || holds mode (flags_of n before me own starts)
+is_prompt n before me own (Take starts mode) = is_test mode || mode_holds mode (flags_of (moment_of n before me own) starts)
 is_prompt n before me own (Peek comm source tag wait) = not wait || has_open n before me comm source tag
 is_prompt n before me own call = true
 
@@ -125,29 +136,29 @@ IsHeld true stuck reply = reply ≡ NotYet
 IsHeld false stuck reply = stuck × (reply ≡ Stopped Stuck)
 
 -- the reply to a completion, by whether its condition holds
-abbrev pub IsTakeAnswer : Bool → Type 0 → ℕ → List Event → ℕ → View → List ℕ → TakeMode → Reply → Type 0
-IsTakeAnswer true stuck n before me own starts mode reply = IsTaken n before me own starts mode reply
-IsTakeAnswer false stuck n before me own starts mode reply = IsHeld (is_test mode) stuck reply
+abbrev pub IsTakeAnswer : Bool → Type 0 → Moment → List ℕ → TakeMode → Reply → Type 0
+IsTakeAnswer true stuck moment starts mode reply = IsCompletionReply moment starts mode reply
+IsTakeAnswer false stuck moment starts mode reply = IsHeld (is_test mode) stuck reply
 
 -- the reply to a probe, by whether there is a message for it
-abbrev pub IsPeekAnswer : Bool → Type 0 → List Event → ℕ → ℕ → Source → Tag → Bool → Reply → Type 0
-IsPeekAnswer true stuck before me comm source tag wait reply = IsPeeked before me comm source tag reply
-IsPeekAnswer false stuck before me comm source tag wait reply = IsHeld (not wait) stuck reply
+abbrev pub IsPeekAnswer : Bool → Type 0 → List Event → Probe → Bool → Reply → Type 0
+IsPeekAnswer true stuck before probe wait reply = IsPeeked before probe reply
+IsPeekAnswer false stuck before probe wait reply = IsHeld (not wait) stuck reply
 
 -- the replies where no halt is due
-abbrev pub IsAnswer : Type 0 → ℕ → List Event → ℕ → View → Call → Reply → Type 0
-IsAnswer stuck n before me own (Take starts mode) reply =
-    IsTakeAnswer (holds mode (flags_of n before me own starts)) stuck n before me own starts mode reply
-IsAnswer stuck n before me own (Peek comm source tag wait) reply =
-    IsPeekAnswer (has_open n before me comm source tag) stuck before me comm source tag wait reply
-IsAnswer stuck n before me own call reply = reply ≡ Done
+abbrev pub IsAnswer : Type 0 → Moment → Call → Reply → Type 0
+IsAnswer stuck moment (Take starts mode) reply =
+    IsTakeAnswer (mode_holds mode (flags_of moment starts)) stuck moment starts mode reply
+IsAnswer stuck moment (Peek comm source tag wait) reply =
+    IsPeekAnswer (has_open moment.ranks moment.before moment.me comm source tag) stuck moment.before (probe_of moment.me comm source tag) wait reply
+IsAnswer stuck moment call reply = reply ≡ Done
 
 -- a halt that is due is the reply; else the call is answered
-abbrev pub IsAllowedBy : Option Halt → Type 0 → ℕ → List Event → ℕ → View → Call → Reply → Type 0
-IsAllowedBy (Some halt) stuck n before me own call reply = reply ≡ Stopped halt
-IsAllowedBy None stuck n before me own call reply = IsAnswer stuck n before me own call reply
+abbrev pub IsAllowedBy : Option Halt → Type 0 → Moment → Call → Reply → Type 0
+IsAllowedBy (Some halt) stuck moment call reply = reply ≡ Stopped halt
+IsAllowedBy None stuck moment call reply = IsAnswer stuck moment call reply
 
 -- the allowed replies to the call of rank `me`
 abbrev pub IsAllowed : Next → ℕ → List Event → ℕ → Call → Reply → Type 0
 IsAllowed next n before me call reply =
-    IsAllowedBy (due n before me (view_of before me) call) (IsStuck next n before) n before me (view_of before me) call reply
+    IsAllowedBy (due n before me (view_of before me) call) (IsStuck next n before) (moment_at n before me) call reply

@@ -24,23 +24,23 @@ suits_some rank call owner None = false
 suits_some rank call owner (Some start) = suits rank call owner start
 
 -- the start of this name is unpaired, and the call of `rank` suits it
-abbrev pub is_open : List Event → ℕ → Call → Option Name → Bool
-is_open events rank call None = false
-is_open events rank call (Some name) =
+abbrev pub is_open_match : List Event → ℕ → Call → Option Name → Bool
+is_open_match events rank call None = false
+is_open_match events rank call (Some name) =
     not (is_some (partner_of (pairs_of events) name)) && suits_some rank call name.0 (named events name)
 
 -- the least number that passes a test, of as many as are given from `at` on
-abbrev pub least : (ℕ → Bool) → ℕ → ℕ → Option ℕ
-least test at zero = None
-least test at (suc more) = if test at then Some at else least test (at + 1) more
+abbrev pub least_passing : (ℕ → Bool) → ℕ → ℕ → Option ℕ
+least_passing test at zero = None
+least_passing test at (suc more) = if test at then Some at else least_passing test (at + 1) more
 
 -- the position of the earliest unpaired start of the history that the call suits
 abbrev pub choice : List Event → ℕ → Call → Option ℕ
-choice events rank call = least (λ at. is_open events rank call (name_at events at)) 0 (length events)
+choice events rank call = least_passing (λ at. is_open_match events rank call (name_at events at)) 0 (length events)
 
 -- only a start gets a partner
-abbrev pub mate_of : List Event → ℕ → Call → Reply → Option ℕ
-mate_of events rank call reply = if is_start (call, reply) then choice events rank call else None
+abbrev pub chosen_mate : List Event → ℕ → Call → Reply → Option ℕ
+chosen_mate events rank call reply = if is_start (call, reply) then choice events rank call else None
 
 -- the places of the starts that a completion takes: of one start the least that is ready
 abbrev pub chosen_places : TakeMode → List Bool → List ℕ

@@ -15,59 +15,60 @@ use Rattle.mpi_call.specs.Calls.{comm_of, makes}
 use Rattle.mpi_call.specs.Collectives.{is_uncoloured, members_made, result_of}
 use Rattle.run_model.specs.declared.event.Event.{Event}
 use Rattle.run_model.specs.Lists.{Along}
-use Rattle.run_model.specs.Views.{View, Next, view_of, start_at}
-use Rattle.run_model.specs.Communicators.{members_in}
+use Rattle.run_model.specs.Views.{Moment, View, Next, moment_of, view_of, start_at}
+use Rattle.run_model.specs.Communicators.{members_for_rank}
 use Rattle.run_model.specs.Inputs.{inputs_of}
 use Rattle.run_model.specs.Pairs.{Name, name_at, named, pairs_of, partner_of}
 use Rattle.run_model.specs.Shape.{is_test}
-use Rattle.run_model.specs.Allowed.{first_long, flags_of, holds, taken_reply}
+use Rattle.run_model.specs.Allowed.{first_long, flags_of, mode_holds, taken_reply}
 use Rattle.run_model.specs.Due.{due}
 use Rattle.run_model.specs.Run.{IsRun}
-use Rattle.run_model.specs.Choice.{choice, chosen_places, mate_of}
+use Rattle.run_model.specs.Choice.{choice, chosen_places, chosen_mate}
 use Rattle.run_model.specs.Numbers.{communicators_of, number_among, origin_of}
 
 -- the message of the Send that a receive is paired with
-abbrev pub message_in : Name → Option Call → Got
-message_in send (Some (Send comm dest tag ints sync)) = Message send.0 send.1 tag ints
-message_in send other = Nothing
+abbrev pub message_of_pair : Name → Option Call → Got
+message_of_pair send (Some (Send comm dest tag ints sync)) = Message send.0 send.1 tag ints
+message_of_pair send other = Nothing
 
 -- the same, of the Send with this name
 abbrev pub message_of : List Event → Option Name → Got
 message_of before None = Nothing
-message_of before (Some send) = message_in send (named before send)
+message_of before (Some send) = message_of_pair send (named before send)
 
 -- by whether the collective makes a communicator, and whether its colour is undefined
-abbrev pub collected_by : Bool → Bool → ℕ → List Event → ℕ → View → ℕ → Call → List (List ℤ) → Got
-collected_by true true n before me own k enter inputs = Made 0 []
-collected_by true false n before me own k enter inputs =
-    Made (number_among (communicators_of n before) (origin_of own k enter)) (members_made enter (members_in n own (comm_of enter)) inputs me)
-collected_by false uncoloured n before me own k enter inputs =
-    Joined (result_of enter (members_in n own (comm_of enter)) inputs me)
+abbrev pub collected_by : Bool → Bool → Moment → ℕ → Call → List (List ℤ) → Got
+collected_by true true moment k enter inputs = Made 0 []
+collected_by true false moment k enter inputs =
+    Made (number_among (communicators_of moment.ranks moment.before) (origin_of moment.own k enter))
+    (members_made enter (members_for_rank moment.ranks moment.own (comm_of enter)) inputs moment.me)
+collected_by false uncoloured moment k enter inputs =
+    Joined (result_of enter (members_for_rank moment.ranks moment.own (comm_of enter)) inputs moment.me)
 
 -- what a collective gives, once those that it needs have entered
-abbrev pub collected : ℕ → List Event → ℕ → View → ℕ → Call → Result (List (List ℤ)) ℕ → Got
-collected n before me own k enter (Err missing) = Nothing
-collected n before me own k enter (Ok inputs) = collected_by (makes enter) (is_uncoloured enter) n before me own k enter inputs
+abbrev pub collected : Moment → ℕ → Call → Result (List (List ℤ)) ℕ → Got
+collected moment k enter (Err missing) = Nothing
+collected moment k enter (Ok inputs) = collected_by (makes enter) (is_uncoloured enter) moment k enter inputs
 
 -- what the ready start k of rank `me` gives
-abbrev pub got_of : ℕ → List Event → ℕ → View → ℕ → Option Call → Got
-got_of n before me own k (Some (Send comm dest tag ints sync)) = Sent
-got_of n before me own k (Some (Post comm Null tag room)) = Nothing
-got_of n before me own k (Some (Post comm source tag room)) = message_of before (partner_of (pairs_of before) (me, k))
-got_of n before me own k (Some (Enter comm kind root op count ints)) =
-    collected n before me own k (Enter comm kind root op count ints) (inputs_of n (view_of before) me own k (Enter comm kind root op count ints))
-got_of n before me own k other = Nothing
+abbrev pub got_of : Moment → ℕ → Option Call → Got
+got_of moment k (Some (Send comm dest tag ints sync)) = Sent
+got_of moment k (Some (Post comm Null tag room)) = Nothing
+got_of moment k (Some (Post comm source tag room)) = message_of moment.before (partner_of (pairs_of moment.before) (moment.me, k))
+got_of moment k (Some (Enter comm kind root op count ints)) =
+    collected moment k (Enter comm kind root op count ints) (inputs_of moment.ranks (view_of moment.before) moment.me moment.own k (Enter comm kind root op count ints))
+got_of moment k other = Nothing
 
 -- the items of these listed starts, by their places
-abbrev pub items_at : ℕ → List Event → ℕ → View → List ℕ → List ℕ → List Item
-items_at n before me own starts [] = []
-items_at n before me own starts (index ∷ indices) =
-    (record { index = index; got = got_of n before me own (slice_index starts index) (start_at own (slice_index starts index)) })
-    ∷ items_at n before me own starts indices
+abbrev pub items_at : Moment → List ℕ → List ℕ → List Item
+items_at moment starts [] = []
+items_at moment starts (index ∷ indices) =
+    (record { index = index; got = got_of moment (slice_index starts index) (start_at moment.own (slice_index starts index)) })
+    ∷ items_at moment starts indices
 
 -- the items of the starts that a mode chooses
-abbrev pub items_of : ℕ → List Event → ℕ → View → List ℕ → TakeMode → List Item
-items_of n before me own starts mode = items_at n before me own starts (chosen_places mode (flags_of n before me own starts))
+abbrev pub items_of : Moment → List ℕ → TakeMode → List Item
+items_of moment starts mode = items_at moment starts (chosen_places mode (flags_of moment starts))
 
 -- a test or probe that finds nothing is answered NotYet, a call that waits is answered Stuck
 abbrev pub held_reply : Bool → Reply
@@ -92,8 +93,8 @@ peek_reply before wait None = held_reply (not wait)
 -- the reply where no halt is due
 abbrev pub chosen_answer : ℕ → List Event → ℕ → View → Call → Reply
 chosen_answer n before me own (Take starts mode) =
-    if holds mode (flags_of n before me own starts)
-    then taken_reply me (first_long own starts (items_of n before me own starts mode)) (items_of n before me own starts mode)
+    if mode_holds mode (flags_of (moment_of n before me own) starts)
+    then taken_reply me (first_long own starts (items_of (moment_of n before me own) starts mode)) (items_of (moment_of n before me own) starts mode)
     else held_reply (is_test mode)
 chosen_answer n before me own (Peek comm source tag wait) = peek_reply before wait (choice before me (Peek comm source tag wait))
 chosen_answer n before me own call = Done
@@ -110,7 +111,7 @@ chosen_reply n before me call = halt_or (due n before me (view_of before me) cal
 -- the event that the machine appends for a rank's call
 abbrev pub chosen_event : ℕ → List Event → ℕ → Call → Event
 chosen_event n before rank call =
-    record { rank = rank; call = call; reply = chosen_reply n before rank call; mate = mate_of before rank call (chosen_reply n before rank call) }
+    record { rank = rank; call = call; reply = chosen_reply n before rank call; mate = chosen_mate before rank call (chosen_reply n before rank call) }
 
 -- an event is the machine's, after those before it
 abbrev pub IsChosenEvent : ℕ → List Event → Event → Type 0

@@ -51,8 +51,8 @@ or_none None = []
 or_none (Some members) = members
 
 -- the members of a communicator for a rank, none where it does not know it
-abbrev pub members_in : ℕ → View → ℕ → List ℕ
-members_in n view comm = or_none (known_in n view comm)
+abbrev pub members_for_rank : ℕ → View → ℕ → List ℕ
+members_for_rank n view comm = or_none (known_in n view comm)
 
 -- an Enter of a rank: its start number, the call, and the communicator's members for this rank when it entered
 pub record Entered : Type 0 where

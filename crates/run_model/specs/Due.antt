@@ -1,5 +1,5 @@
 -- The halts that are due whatever else could be answered.
-use Rattle.std.specs.Prelude.{◌+◌, ℕ, List, [], ◌∷◌, Option, Some, None, Bool, false, not, ◌&&◌, ◌||◌, if◌then◌else◌, nat_le, length, is_some}
+use Rattle.std.specs.Prelude.{◌+◌, ℕ, List, [], ◌∷◌, Option, Some, None, Bool, true, false, not, ◌&&◌, ◌||◌, if◌then◌else◌, nat_le, length, is_some}
 use Rattle.std.specs.List.{list_any}
 use Rattle.mpi_call.specs.declared.call.Call.{Call}
 use Rattle.mpi_call.specs.declared.call.Call.TheVariants.{Enter, Take, Abort, Trap}
@@ -56,14 +56,19 @@ or_else (Some halt) other = Some halt
 or_else None other = other
 
 -- the halt in a reply
-abbrev pub halt_in : Reply → Option Halt
-halt_in (Stopped halt) = Some halt
-halt_in reply = None
+abbrev pub halt_of_reply : Reply → Option Halt
+halt_of_reply (Stopped halt) = Some halt
+halt_of_reply reply = None
+
+-- a reply that stops its rank
+abbrev pub stops : Reply → Bool
+stops (Stopped halt) = true
+stops reply = false
 
 -- the halt of the first Stopped reply
 abbrev pub halted : List Event → Option Halt
 halted [] = None
-halted (event ∷ events) = or_else (halt_in event.reply) (halted events)
+halted (event ∷ events) = or_else (halt_of_reply event.reply) (halted events)
 
 -- an Enter that is there does not agree with this one
 abbrev pub disagrees : Call → Option Entered → Bool

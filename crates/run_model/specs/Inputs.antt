@@ -5,7 +5,7 @@ use Rattle.mpi_call.specs.declared.call.Call.{Call}
 use Rattle.mpi_call.specs.Calls.{comm_of, ints_of}
 use Rattle.mpi_call.specs.Collectives.{needs}
 use Rattle.run_model.specs.Views.{View}
-use Rattle.run_model.specs.Communicators.{Entered, enter_at, instance_of, members_in}
+use Rattle.run_model.specs.Communicators.{Entered, enter_at, instance_of, members_for_rank}
 
 -- one list more, in front, where none is missing
 abbrev pub push_ints : List ℤ → Result (List (List ℤ)) ℕ → Result (List (List ℤ)) ℕ
@@ -26,9 +26,9 @@ gather needed find (m ∷ members) =
 -- the inputs for the Enter that is start k of rank `me`
 abbrev pub inputs_of : ℕ → (ℕ → View) → ℕ → View → ℕ → Call → Result (List (List ℤ)) ℕ
 inputs_of n V me own k enter =
-    gather (needs enter (members_in n own (comm_of enter)) me)
+    gather (needs enter (members_for_rank n own (comm_of enter)) me)
     (λ m. enter_at n (V m) (comm_of enter) (instance_of own k (comm_of enter)))
-    (members_in n own (comm_of enter))
+    (members_for_rank n own (comm_of enter))
 
 -- no needed member is missing
 abbrev pub is_gathered : Result (List (List ℤ)) ℕ → Bool

@@ -47,8 +47,8 @@ OrderBeginsSerial next n =
 
 -- the machine's event for a rank's next call makes its run longer, where the call can go or no call can, if the pairs meet
 -- their conditions after it
-abbrev pub GoesOn : Next → ℕ → Type 0
-GoesOn next n =
+abbrev pub StaysMatched : Next → ℕ → Type 0
+StaysMatched next n =
     (before : List Event) (rank : ℕ) (call : Call) → IsChosen next n before → rank < n
     → next n rank (replies_in (view_of before rank)) ≡ Some call
     → (can_go n before rank (view_of before rank) call ≡ true) ⊎ IsStuck next n before

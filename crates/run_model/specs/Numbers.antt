@@ -13,7 +13,7 @@ use Rattle.mpi_call.specs.Made.{by_key}
 use Rattle.mpi_call.specs.Needs.{colour_in, undefined_colour}
 use Rattle.run_model.specs.declared.event.Event.{Event}
 use Rattle.run_model.specs.Views.{View, view_of, starts_of, is_start}
-use Rattle.run_model.specs.Communicators.{count_on, enter_at, instance_of, members_in}
+use Rattle.run_model.specs.Communicators.{count_on, enter_at, instance_of, members_for_rank}
 use Rattle.run_model.specs.Inputs.{gather}
 
 -- where a communicator comes from: the instance of a Split or Dup, and for a Split the colour
@@ -63,7 +63,7 @@ abbrev pub made_at : ℕ → List Event → Event → List Origin
 made_at n before event =
     if is_start (event.call, event.reply)
     then origins_from
-    (entered_by_all n (view_of (before ++ event ∷ [])) (comm_of event.call) (count_on (comm_of event.call) (starts_of (view_of before event.rank))) (members_in n (view_of before event.rank) (comm_of event.call)))
+    (entered_by_all n (view_of (before ++ event ∷ [])) (comm_of event.call) (count_on (comm_of event.call) (starts_of (view_of before event.rank))) (members_for_rank n (view_of before event.rank) (comm_of event.call)))
     (count_on (comm_of event.call) (starts_of (view_of before event.rank))) event.call
     else []
 

@@ -62,7 +62,7 @@ post_accepts rank (Post comm source tag room) sender call = accepts rank comm so
 post_accepts rank other sender call = false
 
 -- `post` names a Post that accepts the Send that `send` names; N looks starts up
-pub record Takes (N : Name → Option Call) (post send : Name) : Type 0 where
+pub record PostAccepts (N : Name → Option Call) (post send : Name) : Type 0 where
   pub post_call : Call
   pub send_call : Call
   pub post_is : N post ≡ Some post_call
@@ -70,17 +70,17 @@ pub record Takes (N : Name → Option Call) (post send : Name) : Type 0 where
   pub accepted : post_accepts post.0 post_call send.0 send_call ≡ true
 
 -- the five conditions. Earlier starts of one rank are those with lower numbers.
--- pair: a pair is a Send and a Post that accepts it
--- single: a start is in one pair at most: its partner has no other partner
--- sends: the paired Send's rank has no earlier unpaired Send that the Post accepts
--- posts: the paired Post's rank has no earlier unpaired Post that accepts the Send
--- closed: no unpaired Post accepts an unpaired Send
+-- pairs_accept: a pair is a Send and a Post that accepts it
+-- one_partner: a start is in one pair at most: its partner has no other partner
+-- no_overtaking: the paired Send's rank has no earlier unpaired Send that the Post accepts
+-- earliest_receive: the paired Post's rank has no earlier unpaired Post that accepts the Send
+-- nothing_waits: no unpaired Post accepts an unpaired Send
 pub record AreMatched (N : Name → Option Call) (pairs : List (Name × Name)) : Type 0 where
-  pub pair : (a b : Name) → partner_of pairs a ≡ Some b → Takes N a b ⊎ Takes N b a
-  pub single : (a b : Name) → partner_of pairs a ≡ Some b → partner_of pairs b ≡ Some a
-  pub sends : (post send : Name) → partner_of pairs post ≡ Some send → (start : ℕ) → start < send.1 → Takes N post (send.0, start) → is_some (partner_of pairs (send.0, start)) ≡ true
-  pub posts : (post send : Name) → partner_of pairs post ≡ Some send → (start : ℕ) → start < post.1 → Takes N (post.0, start) send → is_some (partner_of pairs (post.0, start)) ≡ true
-  pub closed : (post send : Name) → Takes N post send → partner_of pairs post ≡ None → partner_of pairs send ≡ None → ⊥
+  pub pairs_accept : (a b : Name) → partner_of pairs a ≡ Some b → PostAccepts N a b ⊎ PostAccepts N b a
+  pub one_partner : (a b : Name) → partner_of pairs a ≡ Some b → partner_of pairs b ≡ Some a
+  pub no_overtaking : (post send : Name) → partner_of pairs post ≡ Some send → (start : ℕ) → start < send.1 → PostAccepts N post (send.0, start) → is_some (partner_of pairs (send.0, start)) ≡ true
+  pub earliest_receive : (post send : Name) → partner_of pairs post ≡ Some send → (start : ℕ) → start < post.1 → PostAccepts N (post.0, start) send → is_some (partner_of pairs (post.0, start)) ≡ true
+  pub nothing_waits : (post send : Name) → PostAccepts N post send → partner_of pairs post ≡ None → partner_of pairs send ≡ None → ⊥
 
 -- the pairs of a history meet the five conditions
 abbrev pub IsMatched : List Event → Type 0

@@ -20,13 +20,13 @@ use Rattle.run_model.specs.Communicators.{known_in}
 use Rattle.run_model.specs.Shape.{has_shape}
 
 -- one more call of a rank: the program's next, with a reply in its shape
-pub record IsSeen (next : Next) (n rank : ℕ) (before : View) (seen : Call × Reply) : Type 0 where
+pub record IsNextSeen (next : Next) (n rank : ℕ) (before : View) (seen : Call × Reply) : Type 0 where
   pub asked : next n rank (replies_in before) ≡ Some seen.0
   pub shaped : has_shape n rank before seen.0 seen.1 ≡ true
 
 -- a view that the program's rank can come to: replies in shape
 abbrev pub IsViewOf : Next → ℕ → ℕ → View → Type 0
-IsViewOf next n rank view = Along (IsSeen next n rank) [] view
+IsViewOf next n rank view = Along (IsNextSeen next n rank) [] view
 
 -- what ends a rank
 abbrev pub ends : Call × Reply → Bool
@@ -62,20 +62,20 @@ IsTagInBounds tag = Unit {0}
 
 -- ranks are below n, tags are below 2 ^ 31 (that is, at most `GREATEST_TAG`), a message is not too long; a Take lists at
 -- least one start and not too many, and each number is small while the rank got few replies
-abbrev pub IsInBounds : ℕ → ℕ → Call → Type 0
-IsInBounds n got (Send comm dest tag ints sync) = (dest < n) × (tag < 2 ^ 31) × (length ints ≤ MOST_INTS)
-IsInBounds n got (Post comm source tag room) = IsSourceBelow n source × IsTagInBounds tag
-IsInBounds n got (Enter comm kind root op count ints) = IfSome root (λ rank. rank < n)
-IsInBounds n got (Take starts mode) =
+abbrev pub IsCallInBounds : ℕ → ℕ → Call → Type 0
+IsCallInBounds n got (Send comm dest tag ints sync) = (dest < n) × (tag < 2 ^ 31) × (length ints ≤ MOST_INTS)
+IsCallInBounds n got (Post comm source tag room) = IsSourceBelow n source × IsTagInBounds tag
+IsCallInBounds n got (Enter comm kind root op count ints) = IfSome root (λ rank. rank < n)
+IsCallInBounds n got (Take starts mode) =
     (0 < length starts) × (length starts ≤ MOST_STARTS) × (got < MOST_STARTS → All (λ k. k < MOST_STARTS) starts)
-IsInBounds n got (Peek comm source tag wait) = IsSourceBelow n source × IsTagInBounds tag
-IsInBounds n got call = Unit {0}
+IsCallInBounds n got (Peek comm source tag wait) = IsSourceBelow n source × IsTagInBounds tag
+IsCallInBounds n got call = Unit {0}
 
 -- third law: calls are in bounds
 abbrev pub AsksInBounds : Next → Type 0
 AsksInBounds next =
     (n rank : ℕ) (view : View) (call : Call) → IsRankOf n rank → IsViewOf next n rank view
-    → next n rank (replies_in view) ≡ Some call → IsInBounds n (length view) call
+    → next n rank (replies_in view) ≡ Some call → IsCallInBounds n (length view) call
 
 -- an Enter's communicator is known to the rank, the Enter is as the tables state for it, and its result is not too long
 abbrev pub IsInForm : ℕ → ℕ → View → Call → Type 0

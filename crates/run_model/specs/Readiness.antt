@@ -10,8 +10,8 @@ use Rattle.mpi_call.specs.declared.reply.Item.{Item}
 use Rattle.mpi_call.specs.Calls.{comm_of, makes}
 use Rattle.mpi_call.specs.Collectives.{is_uncoloured, members_made, result_of}
 use Rattle.run_model.specs.declared.event.Event.{Event}
-use Rattle.run_model.specs.Views.{View, view_of, start_at}
-use Rattle.run_model.specs.Communicators.{members_in}
+use Rattle.run_model.specs.Views.{Moment, View, view_of, start_at}
+use Rattle.run_model.specs.Communicators.{members_for_rank}
 use Rattle.run_model.specs.Inputs.{inputs_of, is_gathered}
 use Rattle.run_model.specs.Pairs.{Name, named, pairs_of, partner_of}
 
@@ -19,14 +19,14 @@ use Rattle.run_model.specs.Pairs.{Name, named, pairs_of, partner_of}
 -- a receive has matched it, that is, when it is paired. A receive from the null process is ready at once, another receive when it
 -- is paired, a collective when each member that its result needs has entered.
 -- (MPI 3.1, "Communication Modes": a synchronous send completes only when a matching receive has started to receive.)
-abbrev pub is_ready : ℕ → List Event → ℕ → View → ℕ → Option Call → Bool
-is_ready n before me own k None = false
-is_ready n before me own k (Some (Send comm dest tag ints sync)) = not sync || is_some (partner_of (pairs_of before) (me, k))
-is_ready n before me own k (Some (Post comm Null tag room)) = true
-is_ready n before me own k (Some (Post comm source tag room)) = is_some (partner_of (pairs_of before) (me, k))
-is_ready n before me own k (Some (Enter comm kind root op count ints)) =
-    is_gathered (inputs_of n (view_of before) me own k (Enter comm kind root op count ints))
-is_ready n before me own k (Some call) = false
+abbrev pub is_ready : Moment → ℕ → Option Call → Bool
+is_ready moment k None = false
+is_ready moment k (Some (Send comm dest tag ints sync)) = not sync || is_some (partner_of (pairs_of moment.before) (moment.me, k))
+is_ready moment k (Some (Post comm Null tag room)) = true
+is_ready moment k (Some (Post comm source tag room)) = is_some (partner_of (pairs_of moment.before) (moment.me, k))
+is_ready moment k (Some (Enter comm kind root op count ints)) =
+    is_gathered (inputs_of moment.ranks (view_of moment.before) moment.me moment.own k (Enter comm kind root op count ints))
+is_ready moment k (Some call) = false
 
 -- the paired Send's message
 pub record IsMessage (before : List Event) (me k : ℕ) (got : Got) : Type 0 where
@@ -41,37 +41,37 @@ pub record IsMessage (before : List Event) (me k : ℕ) (got : Got) : Type 0 whe
   pub got_is : got ≡ Message send.0 send.1 tag ints
 
 -- a new communicator: some number above 0, with the members of the table
-pub record IsMade (n : ℕ) (me : ℕ) (own : View) (enter : Call) (inputs : List (List ℤ)) (got : Got) : Type 0 where
+pub record IsMadeCommunicator (n : ℕ) (me : ℕ) (own : View) (enter : Call) (inputs : List (List ℤ)) (got : Got) : Type 0 where
   pub comm : ℕ
   pub is_new : (comm == 0) ≡ false
-  pub got_is : got ≡ Made comm (members_made enter (members_in n own (comm_of enter)) inputs me)
+  pub got_is : got ≡ Made comm (members_made enter (members_for_rank n own (comm_of enter)) inputs me)
 
 -- by whether the collective makes a communicator, and whether its colour is undefined
 abbrev pub IsFrom : Bool → Bool → ℕ → ℕ → View → Call → List (List ℤ) → Got → Type 0
 IsFrom true true n me own enter inputs got = got ≡ Made 0 []
-IsFrom true false n me own enter inputs got = IsMade n me own enter inputs got
+IsFrom true false n me own enter inputs got = IsMadeCommunicator n me own enter inputs got
 IsFrom false uncoloured n me own enter inputs got =
-    got ≡ Joined (result_of enter (members_in n own (comm_of enter)) inputs me)
+    got ≡ Joined (result_of enter (members_for_rank n own (comm_of enter)) inputs me)
 
 -- the result of a collective, from what the members entered
-pub record IsCollected (n : ℕ) (before : List Event) (me : ℕ) (own : View) (k : ℕ) (enter : Call) (got : Got) : Type 0 where
+pub record IsCollected (moment : Moment) (k : ℕ) (enter : Call) (got : Got) : Type 0 where
   pub inputs : List (List ℤ)
-  pub gathered : inputs_of n (view_of before) me own k enter ≡ Ok inputs
-  pub given : IsFrom (makes enter) (is_uncoloured enter) n me own enter inputs got
+  pub gathered : inputs_of moment.ranks (view_of moment.before) moment.me moment.own k enter ≡ Ok inputs
+  pub given : IsFrom (makes enter) (is_uncoloured enter) moment.ranks moment.me moment.own enter inputs got
 
 -- what the ready start k of rank `me` gives
-abbrev pub IsGot : ℕ → List Event → ℕ → View → ℕ → Option Call → Got → Type 0
-IsGot n before me own k None got = ⊥
-IsGot n before me own k (Some (Send comm dest tag ints sync)) got = got ≡ Sent
-IsGot n before me own k (Some (Post comm Null tag room)) got = got ≡ Nothing
-IsGot n before me own k (Some (Post comm source tag room)) got = IsMessage before me k got
-IsGot n before me own k (Some (Enter comm kind root op count ints)) got =
-    IsCollected n before me own k (Enter comm kind root op count ints) got
-IsGot n before me own k (Some call) got = ⊥
+abbrev pub IsGot : Moment → ℕ → Option Call → Got → Type 0
+IsGot moment k None got = ⊥
+IsGot moment k (Some (Send comm dest tag ints sync)) got = got ≡ Sent
+IsGot moment k (Some (Post comm Null tag room)) got = got ≡ Nothing
+IsGot moment k (Some (Post comm source tag room)) got = IsMessage moment.before moment.me k got
+IsGot moment k (Some (Enter comm kind root op count ints)) got =
+    IsCollected moment k (Enter comm kind root op count ints) got
+IsGot moment k (Some call) got = ⊥
 
 -- each item gives what its start gives
-abbrev pub AreGots : ℕ → List Event → ℕ → View → List ℕ → List Item → Type 0
-AreGots n before me own starts [] = Unit {0}
-AreGots n before me own starts (item ∷ items) =
-    IsGot n before me own (slice_index starts item.index) (start_at own (slice_index starts item.index)) item.got
-    × AreGots n before me own starts items
+abbrev pub AreGots : Moment → List ℕ → List Item → Type 0
+AreGots moment starts [] = Unit {0}
+AreGots moment starts (item ∷ items) =
+    IsGot moment (slice_index starts item.index) (start_at moment.own (slice_index starts item.index)) item.got
+    × AreGots moment starts items

@@ -18,48 +18,58 @@ use Rattle.run_model.specs.Pairs.{Name, IsMatched, name_at, pairs_of, partner_of
 use Rattle.run_model.specs.Allowed.{IsAllowed}
 
 -- the communicators that a view made: each number, with the number of the Enter that made it
-abbrev pub number_in : ℕ → Got → List (ℕ × ℕ)
-number_in k (Made comm members) = (comm, k) ∷ []
-number_in k got = []
+abbrev pub numbers_made : ℕ → Got → List (ℕ × ℕ)
+numbers_made k (Made comm members) = (comm, k) ∷ []
+numbers_made k got = []
 
 -- the same, of the items of a completion
-abbrev pub numbers_in : List ℕ → List Item → List (ℕ × ℕ)
-numbers_in starts [] = []
-numbers_in starts (item ∷ items) = number_in (slice_index starts item.index) item.got ++ numbers_in starts items
+abbrev pub numbers_in_items : List ℕ → List Item → List (ℕ × ℕ)
+numbers_in_items starts [] = []
+numbers_in_items starts (item ∷ items) = numbers_made (slice_index starts item.index) item.got ++ numbers_in_items starts items
 
 -- the same, of a reply
 abbrev pub numbers_in_reply : Call → Reply → List (ℕ × ℕ)
-numbers_in_reply call (Took items) = numbers_in (listed_by call) items
+numbers_in_reply call (Took items) = numbers_in_items (listed_by call) items
 numbers_in_reply call reply = []
 
 -- the same, of a view
-abbrev pub numbers_of : View → List (ℕ × ℕ)
-numbers_of [] = []
-numbers_of ((call, reply) ∷ view) = numbers_in_reply call reply ++ numbers_of view
+abbrev pub numbers_in_view : View → List (ℕ × ℕ)
+numbers_in_view [] = []
+numbers_in_view ((call, reply) ∷ view) = numbers_in_reply call reply ++ numbers_in_view view
 
--- of two ranks, a start of one and a start of the other are Enters of one instance and, for Split, of one colour
-pub record SameOrigin (views : ℕ → View) (rank start rank' start' : ℕ) (enter enter' : Call) : Type 0 where
-  pub comm : comm_of enter ≡ comm_of enter'
-  pub instance : instance_of (views rank) start (comm_of enter) ≡ instance_of (views rank') start' (comm_of enter')
-  pub colour : colour_of enter ≡ colour_of enter'
+-- an Enter of a rank: the rank, its number among the rank's starts, and the call
+pub record Entrance : Type 0 where
+  pub rank : ℕ
+  pub start : ℕ
+  pub enter : Call
 
--- two Made replies, with numbers above 0, for a rank's Enter and for a rank's Enter
-pub record MadeTwo (views : ℕ → View) (rank number start rank' number' start' : ℕ) (enter enter' : Call) : Type 0 where
-  pub first : IsIn (number, start) (numbers_of (views rank))
-  pub second : IsIn (number', start') (numbers_of (views rank'))
+-- the Enter with these parts
+abbrev pub entrance_of : ℕ → ℕ → Call → Entrance
+entrance_of rank start enter = record { rank = rank; start = start; enter = enter }
+
+-- two Enters are of one instance and, for Split, of one colour
+pub record SameOrigin (views : ℕ → View) (one other : Entrance) : Type 0 where
+  pub comm : comm_of one.enter ≡ comm_of other.enter
+  pub instance : instance_of (views one.rank) one.start (comm_of one.enter) ≡ instance_of (views other.rank) other.start (comm_of other.enter)
+  pub colour : colour_of one.enter ≡ colour_of other.enter
+
+-- two Made replies, with numbers above 0, for an Enter and for another
+pub record MadeTwo (views : ℕ → View) (one : Entrance) (number : ℕ) (other : Entrance) (number' : ℕ) : Type 0 where
+  pub first : IsIn (number, one.start) (numbers_in_view (views one.rank))
+  pub second : IsIn (number', other.start) (numbers_in_view (views other.rank))
   pub first_new : (number == 0) ≡ false
   pub second_new : (number' == 0) ≡ false
-  pub first_enter : start_at (views rank) start ≡ Some enter
-  pub second_enter : start_at (views rank') start' ≡ Some enter'
+  pub first_enter : start_at (views one.rank) one.start ≡ Some one.enter
+  pub second_enter : start_at (views other.rank) other.start ≡ Some other.enter
 
 -- they have the same number if and only if they have the same origin
 pub record AreNumbered (views : ℕ → View) : Type 0 where
   pub origin : (rank number start rank' number' start' : ℕ) (enter enter' : Call)
-      → MadeTwo views rank number start rank' number' start' enter enter'
-      → number ≡ number' → SameOrigin views rank start rank' start' enter enter'
+      → MadeTwo views (entrance_of rank start enter) number (entrance_of rank' start' enter') number'
+      → number ≡ number' → SameOrigin views (entrance_of rank start enter) (entrance_of rank' start' enter')
   pub number : (rank number start rank' number' start' : ℕ) (enter enter' : Call)
-      → MadeTwo views rank number start rank' number' start' enter enter'
-      → SameOrigin views rank start rank' start' enter enter' → number ≡ number'
+      → MadeTwo views (entrance_of rank start enter) number (entrance_of rank' start' enter') number'
+      → SameOrigin views (entrance_of rank start enter) (entrance_of rank' start' enter') → number ≡ number'
 
 -- a mate is the position of an earlier unpaired start, and only a start has one
 abbrev pub HasMate : List Event → Event → Type 0

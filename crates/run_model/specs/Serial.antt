@@ -19,13 +19,13 @@ abbrev pub call_after : Next → ℕ → List Event → ℕ → Option Call
 call_after next n events rank = next n rank (replies_in (view_of events rank))
 
 -- a live rank's next call can go
-abbrev pub goes : ℕ → List Event → ℕ → Option Call → Bool
-goes n events rank None = false
-goes n events rank (Some call) = can_go n events rank (view_of events rank) call
+abbrev pub next_can_go : ℕ → List Event → ℕ → Option Call → Bool
+next_can_go n events rank None = false
+next_can_go n events rank (Some call) = can_go n events rank (view_of events rank) call
 
 -- no live rank's next call can go
 abbrev pub is_stuck : Next → ℕ → List Event → Bool
-is_stuck next n events = list_all (λ rank. not (goes n events rank (call_after next n events rank))) (world n 0)
+is_stuck next n events = list_all (λ rank. not (next_can_go n events rank (call_after next n events rank))) (world n 0)
 
 -- all other live ranks wait
 abbrev pub others_wait : Next → ℕ → Stage → ℕ → Bool
@@ -33,8 +33,8 @@ others_wait next n stage rank =
     list_all (λ other. (other == rank) || (not (is_some (call_after next n stage.events other)) || is_member stage.waiting other)) (world n 0)
 
 -- a rank attempts, and its call is answered
-abbrev pub appended : ℕ → Stage → ℕ → Call → Stage
-appended n stage rank call =
+abbrev pub with_chosen_event : ℕ → Stage → ℕ → Call → Stage
+with_chosen_event n stage rank call =
     record { events = stage.events ++ chosen_event n stage.events rank call ∷ []; waiting = filter (λ other. not (other == rank)) stage.waiting }
 
 -- an attempt: a rank that is not live makes none; a call that can go is answered; a call that cannot is stuck where no
@@ -42,8 +42,8 @@ appended n stage rank call =
 abbrev pub attempt_with : Next → ℕ → Stage → ℕ → Option Call → Stage
 attempt_with next n stage rank None = stage
 attempt_with next n stage rank (Some call) =
-    if can_go n stage.events rank (view_of stage.events rank) call then appended n stage rank call
-    else if is_stuck next n stage.events && others_wait next n stage rank then appended n stage rank call
+    if can_go n stage.events rank (view_of stage.events rank) call then with_chosen_event n stage rank call
+    else if is_stuck next n stage.events && others_wait next n stage rank then with_chosen_event n stage rank call
     else record stage { waiting = rank ∷ stage.waiting }
 
 -- a rank attempts with its next call
@@ -61,11 +61,11 @@ rounds next n zero stage = stage
 rounds next n (suc more) stage = rounds next n more (attempts next n stage (world n 0))
 
 -- no events, and no rank waits
-abbrev pub at_first : Stage
-at_first = record { events = []; waiting = [] }
+abbrev pub first_stage : Stage
+first_stage = record { events = []; waiting = [] }
 
 -- the events of these turns and of as many rounds as it takes until no rank is live
 pub record IsSerial (next : Next) (n : ℕ) (turns : List ℕ) (events : List Event) : Type 0 where
   pub count : ℕ
-  pub made : (rounds next n count (attempts next n at_first turns)).events ≡ events
+  pub made : (rounds next n count (attempts next n first_stage turns)).events ≡ events
   pub ended : (rank : ℕ) → rank < n → call_after next n events rank ≡ None

@@ -23,7 +23,7 @@ use Rattle.mpi_call.specs.Halts.{same_fault}
 use Rattle.mpi_call.specs.Members.{is_member, is_distinct}
 use Rattle.run_model.specs.Lists.{are_below, same_ranks}
 use Rattle.run_model.specs.Views.{View, start_at, taken_of}
-use Rattle.run_model.specs.Communicators.{members_in}
+use Rattle.run_model.specs.Communicators.{members_for_rank}
 
 -- the Test family
 abbrev pub is_test : TakeMode → Bool
@@ -62,7 +62,7 @@ are_members n me enter old members =
 
 -- the result of an Enter that makes no communicator, by its length
 abbrev pub is_sized : ℕ → ℕ → View → Call → List ℤ → Bool
-is_sized n me own enter ints = length ints == result_length enter (members_in n own (comm_of enter)) me
+is_sized n me own enter ints = length ints == result_length enter (members_for_rank n own (comm_of enter)) me
 
 -- a halt that names the rank itself fits only the call that makes it
 abbrev pub lists_start : ℕ → Call → Bool
@@ -100,7 +100,7 @@ got_fits n me own (Some enter) (Made comm []) = makes enter && (is_uncoloured en
 got_fits n me own (Some enter) (Made comm (m ∷ members)) =
     makes enter
     && (not (is_uncoloured enter)
-    && (not (comm == 0) && are_members n me enter (members_in n own (comm_of enter)) (m ∷ members)))
+    && (not (comm == 0) && are_members n me enter (members_for_rank n own (comm_of enter)) (m ∷ members)))
 got_fits n me own start got = false
 
 -- what each item gives has the shape of its start

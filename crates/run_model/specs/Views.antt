@@ -1,5 +1,5 @@
 -- What ranks have seen, and the starts in it.
-use Rattle.std.specs.Prelude.{ℕ, List, [], ◌∷◌, ◌++◌, Option, Bool, true, false, ◌&&◌, ◌==◌, if◌then◌else◌, map, slice_get, slice_index}
+use Rattle.std.specs.Prelude.{ℕ, List, [], ◌∷◌, ◌++◌, Option, Some, None, Bool, true, false, ◌&&◌, ◌==◌, if◌then◌else◌, map, slice_get, slice_index}
 use Rattle.mpi_call.specs.declared.call.Call.{Call}
 use Rattle.mpi_call.specs.declared.reply.Item.{Item}
 use Rattle.mpi_call.specs.declared.reply.Reply.{Reply}
@@ -25,6 +25,26 @@ abbrev pub view_of : List Event → ℕ → View
 view_of [] rank = []
 view_of (event ∷ events) rank =
     if event.rank == rank then (event.call, event.reply) ∷ view_of events rank else view_of events rank
+
+-- the rank of an event, 0 where there is none
+abbrev pub rank_of_event : Option Event → ℕ
+rank_of_event None = 0
+rank_of_event (Some event) = event.rank
+
+-- the moment at which a rank asks: how many ranks there are, the events before, the rank, and what it has seen
+pub record Moment : Type 0 where
+  pub ranks : ℕ
+  pub before : List Event
+  pub me : ℕ
+  pub own : View
+
+-- the moment with these parts
+abbrev pub moment_of : ℕ → List Event → ℕ → View → Moment
+moment_of n before me own = record { ranks = n; before = before; me = me; own = own }
+
+-- the moment after a history at which a rank asks
+abbrev pub moment_at : ℕ → List Event → ℕ → Moment
+moment_at n before me = moment_of n before me (view_of before me)
 
 -- the replies of a view
 abbrev pub replies_in : View → List Reply

@@ -12,11 +12,11 @@ const RANKS: usize = 256;
 
 /// The events of one rank, lent from a history; contracts see what the rank has seen.
 #[derive(Drop)]
-struct Own<'a> {
+struct RankEvents<'a> {
     events: Vec<&'a Event>,
 }
 
-impl<'a> Model for Own<'a> {
+impl<'a> Model for RankEvents<'a> {
     ghost use Rattle.std.specs.Prelude.{map};
     ghost use Rattle.run_model.specs.Views.{View};
 
@@ -25,12 +25,12 @@ impl<'a> Model for Own<'a> {
     ghost view = { λ s. map (λ event. (event.now.call, event.now.reply)) s.events.items };
 }
 
-impl<'a> Own<'a> {
+impl<'a> RankEvents<'a> {
     /// No events.
     fn new(alloc: Global) -> Self
         ensures { result ≡ [] }
     {
-        Own {
+        RankEvents {
             events: Vec::new(alloc),
         }
     }
@@ -55,19 +55,19 @@ impl<'a> Own<'a> {
 #[derive(Drop)]
 pub struct ByRank<'a> {
     history: &'a History,
-    ranks: Vec<Own<'a>>,
+    ranks: Vec<RankEvents<'a>>,
 }
 
 impl<'a> Model for ByRank<'a> {
     ghost use Rattle.std.specs.Prelude.{List, []};
     ghost use Rattle.run_model.specs.declared.event.Event.{Event};
-    ghost use Rattle.run_model.specs.ByRank.{AreHandedOut};
+    ghost use Rattle.run_model.specs.ByRank.{AreViewsBefore};
 
     ghost Value = { List Event };
 
     ghost view = { λ s. s.history.now.events };
 
-    ghost invariant = { λ s. AreHandedOut s.history.now.events [] s.ranks.items };
+    ghost invariant = { λ s. AreViewsBefore s.history.now.events [] s.ranks.items };
 }
 
 impl<'a> ByRank<'a> {
@@ -93,12 +93,12 @@ impl<'a> ByRank<'a> {
 }
 
 /// No events of every rank.
-fn no_events<'a>(alloc: Global) -> Result<Vec<Own<'a>>, AllocError>
+fn no_events<'a>(alloc: Global) -> Result<Vec<RankEvents<'a>>, AllocError>
     ensures { IfOk result (λ ranks. ranks.items ≡ replicate 256 []) }
 {
     let mut ranks = Vec::new(alloc);
     for _ in 0..RANKS {
-        ranks.push(Own::new(alloc))?;
+        ranks.push(RankEvents::new(alloc))?;
     }
     Ok(ranks)
 }

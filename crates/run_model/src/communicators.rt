@@ -1,7 +1,7 @@
 //! The communicators that a rank knows, and lists of members.
 ghost use Rattle.std.specs.Prelude.{◌≡◌, None, length, option_map};
 ghost use Rattle.mpi_call.specs.Members.{is_distinct};
-ghost use Rattle.run_model.specs.Communicators.{known_after, learned, made_in_items, members_in};
+ghost use Rattle.run_model.specs.Communicators.{known_after, learned, made_in_items, members_for_rank};
 ghost use Rattle.run_model.specs.Lists.{are_below, same_ranks, world};
 
 use mpi_call::call::{Call, Comm};
@@ -11,7 +11,7 @@ use mpi_call::reply::{Got, Item, Reply};
 
 /// How many members a communicator has for a rank that has seen this; an unknown one has none.
 pub fn count_members(n: u8, view: &[(Call, Reply)], comm: Comm) -> usize
-    ensures { result ≡ length (members_in n view.now comm) }
+    ensures { result ≡ length (members_for_rank n view.now comm) }
 {
     if comm == 0 {
         return n as usize;
@@ -24,7 +24,7 @@ pub fn count_members(n: u8, view: &[(Call, Reply)], comm: Comm) -> usize
 
 /// Whether these are a communicator's members, in order, for a rank that has seen this.
 pub fn are_the_members(n: u8, view: &[(Call, Reply)], comm: Comm, members: &[u8]) -> bool
-    ensures { result ≡ same_ranks (members_in n view.now comm) members.now }
+    ensures { result ≡ same_ranks (members_for_rank n view.now comm) members.now }
 {
     if comm == 0 {
         return are_all(n, members);

@@ -1,5 +1,5 @@
 //! The laws of a recording machine's runs. Their bodies are empty; a caller's clause follows from theirs.
-ghost use Rattle.run_model.specs.MachineLaws.{GoesOn, OrderBeginsSerial, OrderFixesRun, SerialEnds, TurnsFixSerial};
+ghost use Rattle.run_model.specs.MachineLaws.{StaysMatched, OrderBeginsSerial, OrderFixesRun, SerialEnds, TurnsFixSerial};
 
 use crate::program::Program;
 
@@ -21,5 +21,5 @@ pub fn order_begins_serial<P: Program>(program: &P, n: u8)
 
 /// The machine's event for a rank's next call goes on with its run.
 pub fn goes_on<P: Program>(program: &P, n: u8)
-    ensures { GoesOn (P.next program.now) n }
+    ensures { StaysMatched (P.next program.now) n }
 {}

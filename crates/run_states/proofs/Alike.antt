@@ -16,9 +16,9 @@ use Rattle.mpi_call.specs.Acceptance.{accepts}
 use Rattle.mpi_call.specs.Calls.{comm_of, makes}
 use Rattle.mpi_call.specs.Collectives.{is_uncoloured, members_made}
 use Rattle.run_model.specs.declared.event.Event.{Event}
-use Rattle.run_model.specs.Allowed.{can_go, flags_of, has_open, holds, is_prompt, open_in}
-use Rattle.run_model.specs.Chosen.{collected, collected_by, got_of, items_at, message_in, message_of}
-use Rattle.run_model.specs.Communicators.{enter_at, instance_of, members_in}
+use Rattle.run_model.specs.Allowed.{can_go, flags_of, has_open, mode_holds, is_prompt, open_in, probe_of}
+use Rattle.run_model.specs.Chosen.{collected, collected_by, got_of, items_at, message_of_pair, message_of}
+use Rattle.run_model.specs.Communicators.{enter_at, instance_of, members_for_rank}
 use Rattle.run_model.specs.Due.{disagrees, due, halt_at, halted, is_full, is_mismatched, or_else}
 use Rattle.run_model.specs.Inputs.{inputs_of, is_gathered}
 use Rattle.run_model.specs.Lists.{world}
@@ -26,7 +26,7 @@ use Rattle.run_model.specs.Numbers.{Origin, communicators_of, number_among, orig
 use Rattle.run_model.specs.Pairs.{Name, pairs_of, partner_of}
 use Rattle.run_model.specs.Readiness.{is_ready}
 use Rattle.run_model.specs.Shape.{is_test}
-use Rattle.run_model.specs.Views.{View, start_at, starts_of, view_of}
+use Rattle.run_model.specs.Views.{View, moment_of, start_at, starts_of, view_of}
 use Rattle.run_states.specs.Futures.{SameFuture}
 use Rattle.run_states.proofs.Sizes.{full_same}
 
@@ -45,7 +45,7 @@ alike n one other same halts =
 -- 1. readiness
 
 ready_same : (n : ℕ) (one other : List Event) → Alike n one other → (me : ℕ) (own : View) (k : ℕ) (start : Option Call)
-    → is_ready n one me own k start ≡ is_ready n other me own k start
+    → is_ready (moment_of n one me own) k start ≡ is_ready (moment_of n other me own) k start
 ready_same n one other a me own k None = refl
 ready_same n one other a me own k (Some (Send comm dest tag ints sync)) = ap (λ (p : Name → Option Name). not sync || is_some (p (me, k))) a.pairs
 ready_same n one other a me own k (Some (Post comm Null tag room)) = refl
@@ -60,10 +60,10 @@ ready_same n one other a me own k (Some (Trap fault)) = refl
 ready_same n one other a me own k (Some End) = refl
 
 pub flags_same : (n : ℕ) (one other : List Event) → Alike n one other → (me : ℕ) (own : View) (starts : List ℕ)
-    → flags_of n one me own starts ≡ flags_of n other me own starts
+    → flags_of (moment_of n one me own) starts ≡ flags_of (moment_of n other me own) starts
 flags_same n one other a me own starts =
-    let first : ℕ → Bool = λ k. is_ready n one me own k (start_at own k) in
-    let second : ℕ → Bool = λ k. is_ready n other me own k (start_at own k) in
+    let first : ℕ → Bool = λ k. is_ready (moment_of n one me own) k (start_at own k) in
+    let second : ℕ → Bool = λ k. is_ready (moment_of n other me own) k (start_at own k) in
     let same : first ≡ second = fun_ext (λ k. ready_same n one other a me own k (start_at own k)) in
     ap (λ (ready : ℕ → Bool). map ready starts) same
 
@@ -71,7 +71,7 @@ flags_same n one other a me own starts =
 
 message_same : (n : ℕ) (one other : List Event) → Alike n one other → (partner : Option Name) → message_of one partner ≡ message_of other partner
 message_same n one other a None = refl
-message_same n one other a (Some send) = ap (λ (v : ℕ → View). message_in send (start_at (v send.0) send.1)) a.views
+message_same n one other a (Some send) = ap (λ (v : ℕ → View). message_of_pair send (start_at (v send.0) send.1)) a.views
 
 paired_same : (n : ℕ) (one other : List Event) → Alike n one other → (me k : ℕ)
     → message_of one (partner_of (pairs_of one) (me, k)) ≡ message_of other (partner_of (pairs_of other) (me, k))
@@ -79,19 +79,19 @@ paired_same n one other a me k =
     message_same n one other a (partner_of (pairs_of one) (me, k)) ∙ ap (λ (p : Name → Option Name). message_of other (p (me, k))) a.pairs
 
 collected_by-same : (n : ℕ) (one other : List Event) → Alike n one other → (makes_it uncoloured : Bool) (me : ℕ) (own : View) (k : ℕ) (enter : Call) (inputs : List (List ℤ))
-    → collected_by makes_it uncoloured n one me own k enter inputs ≡ collected_by makes_it uncoloured n other me own k enter inputs
+    → collected_by makes_it uncoloured (moment_of n one me own) k enter inputs ≡ collected_by makes_it uncoloured (moment_of n other me own) k enter inputs
 collected_by-same n one other a true true me own k enter inputs = refl
 collected_by-same n one other a true false me own k enter inputs =
-    ap (λ (made : List Origin). Made (number_among made (origin_of own k enter)) (members_made enter (members_in n own (comm_of enter)) inputs me)) a.made
+    ap (λ (made : List Origin). Made (number_among made (origin_of own k enter)) (members_made enter (members_for_rank n own (comm_of enter)) inputs me)) a.made
 collected_by-same n one other a false uncoloured me own k enter inputs = refl
 
 collected-same : (n : ℕ) (one other : List Event) → Alike n one other → (me : ℕ) (own : View) (k : ℕ) (enter : Call) (inputs : Result (List (List ℤ)) ℕ)
-    → collected n one me own k enter inputs ≡ collected n other me own k enter inputs
+    → collected (moment_of n one me own) k enter inputs ≡ collected (moment_of n other me own) k enter inputs
 collected-same n one other a me own k enter (Err missing) = refl
 collected-same n one other a me own k enter (Ok inputs) = collected_by-same n one other a (makes enter) (is_uncoloured enter) me own k enter inputs
 
 pub got_same : (n : ℕ) (one other : List Event) → Alike n one other → (me : ℕ) (own : View) (k : ℕ) (start : Option Call)
-    → got_of n one me own k start ≡ got_of n other me own k start
+    → got_of (moment_of n one me own) k start ≡ got_of (moment_of n other me own) k start
 got_same n one other a me own k None = refl
 got_same n one other a me own k (Some (Send comm dest tag ints sync)) = refl
 got_same n one other a me own k (Some (Post comm Null tag room)) = refl
@@ -100,7 +100,7 @@ got_same n one other a me own k (Some (Post comm (From source) tag room)) = pair
 got_same n one other a me own k (Some (Enter comm kind root op count ints)) =
     let enter : Call = Enter comm kind root op count ints in
     collected-same n one other a me own k enter (inputs_of n (view_of one) me own k enter)
-    ∙ ap (λ (v : ℕ → View). collected n other me own k enter (inputs_of n v me own k enter)) a.views
+    ∙ ap (λ (v : ℕ → View). collected (moment_of n other me own) k enter (inputs_of n v me own k enter)) a.views
 got_same n one other a me own k (Some (Take starts mode)) = refl
 got_same n one other a me own k (Some (Peek comm source tag wait)) = refl
 got_same n one other a me own k (Some (Abort code)) = refl
@@ -108,13 +108,13 @@ got_same n one other a me own k (Some (Trap fault)) = refl
 got_same n one other a me own k (Some End) = refl
 
 pub items_same : (n : ℕ) (one other : List Event) → Alike n one other → (me : ℕ) (own : View) (starts indices : List ℕ)
-    → items_at n one me own starts indices ≡ items_at n other me own starts indices
+    → items_at (moment_of n one me own) starts indices ≡ items_at (moment_of n other me own) starts indices
 items_same n one other a me own starts [] = refl
 items_same n one other a me own starts (index ∷ indices) =
     let k : ℕ = slice_index starts index in
     let item : Got → Item = λ got. record { index = index; got = got } in
-    ap (λ got. item got ∷ items_at n one me own starts indices) (got_same n one other a me own k (start_at own k))
-    ∙ ap (λ (items : List Item). item (got_of n other me own k (start_at own k)) ∷ items) (items_same n one other a me own starts indices)
+    ap (λ got. item got ∷ items_at (moment_of n one me own) starts indices) (got_same n one other a me own k (start_at own k))
+    ∙ ap (λ (items : List Item). item (got_of (moment_of n other me own) k (start_at own k)) ∷ items) (items_same n one other a me own starts indices)
 
 -- 3. the halt that is due
 
@@ -142,25 +142,25 @@ due_same n one other a me own call =
 -- 4. what can go
 
 open_in-same : (P Q : List (Name × Name)) → ((name : Name) → partner_of P name ≡ partner_of Q name) → (me comm : ℕ) (source : Source) (tag : Tag) (sender start : ℕ) (calls : List Call)
-    → open_in P me comm source tag sender start calls ≡ open_in Q me comm source tag sender start calls
+    → open_in P (probe_of me comm source tag) sender start calls ≡ open_in Q (probe_of me comm source tag) sender start calls
 open_in-same P Q same me comm source tag sender start [] = refl
 open_in-same P Q same me comm source tag sender start (call ∷ calls) =
     let B : Option Name → Bool → Bool = λ o later. (accepts me comm source tag sender call && not (is_some o)) || later in
-    ap (λ o. B o (open_in P me comm source tag sender (start + 1) calls)) (same (sender, start))
+    ap (λ o. B o (open_in P (probe_of me comm source tag) sender (start + 1) calls)) (same (sender, start))
     ∙ ap (B (partner_of Q (sender, start))) (open_in-same P Q same me comm source tag sender (start + 1) calls)
 
 open_same : (n : ℕ) (one other : List Event) → Alike n one other → (me comm : ℕ) (source : Source) (tag : Tag) → has_open n one me comm source tag ≡ has_open n other me comm source tag
 open_same n one other a me comm source tag =
-    let looked : List Event → ℕ → Bool = λ events sender. open_in (pairs_of events) me comm source tag sender 0 (starts_of (view_of events sender)) in
+    let looked : List Event → ℕ → Bool = λ events sender. open_in (pairs_of events) (probe_of me comm source tag) sender 0 (starts_of (view_of events sender)) in
     let pointwise : (name : Name) → partner_of (pairs_of one) name ≡ partner_of (pairs_of other) name = λ name. ap (λ (p : Name → Option Name). p name) a.pairs in
     let each : (sender : ℕ) → looked one sender ≡ looked other sender =
-    λ sender. ap (λ (v : ℕ → View). open_in (pairs_of one) me comm source tag sender 0 (starts_of (v sender))) a.views
+    λ sender. ap (λ (v : ℕ → View). open_in (pairs_of one) (probe_of me comm source tag) sender 0 (starts_of (v sender))) a.views
     ∙ open_in-same (pairs_of one) (pairs_of other) pointwise me comm source tag sender 0 (starts_of (view_of other sender)) in
     let same : looked one ≡ looked other = fun_ext each in
     ap (λ (look : ℕ → Bool). list_any look (world n 0)) same
 
 prompt_same : (n : ℕ) (one other : List Event) → Alike n one other → (me : ℕ) (own : View) (call : Call) → is_prompt n one me own call ≡ is_prompt n other me own call
-prompt_same n one other a me own (Take starts mode) = ap (λ (flags : List Bool). is_test mode || holds mode flags) (flags_same n one other a me own starts)
+prompt_same n one other a me own (Take starts mode) = ap (λ (flags : List Bool). is_test mode || mode_holds mode flags) (flags_same n one other a me own starts)
 prompt_same n one other a me own (Peek comm source tag wait) = ap (λ (b : Bool). not wait || b) (open_same n one other a me comm source tag)
 prompt_same n one other a me own (Send comm dest tag ints sync) = refl
 prompt_same n one other a me own (Post comm source tag room) = refl

@@ -2,7 +2,7 @@
 use Rattle.std.proofs.Common.{◌∙◌, ℕ, ap}
 use Rattle.run_model.specs.Allowed.{can_go}
 use Rattle.run_model.specs.Chosen.{got_of}
-use Rattle.run_model.specs.Views.{Next, View, view_of}
+use Rattle.run_model.specs.Views.{Next, View, moment_of, view_of}
 use Rattle.picked_runs.specs.Picks.{picked_event}
 use Rattle.run_states.specs.StateLaws.{FuturesAnswerAlike, FuturesGoOnAlike}
 use Rattle.run_states.proofs.HaltsSeen.{halts_same}
@@ -17,7 +17,7 @@ futures_answer_alike next n one other first second same =
     record {
       due = own_due n one other a;
       flags = own_flags n one other a;
-      gots = λ me k start. got_same n one other a me (view_of one me) k start ∙ ap (λ (v : ℕ → View). got_of n other me (v me) k start) a.views;
+      gots = λ me k start. got_same n one other a me (view_of one me) k start ∙ ap (λ (v : ℕ → View). got_of (moment_of n other me (v me)) k start) a.views;
       goes = λ me call. goes_same n one other a me (view_of one me) call ∙ ap (λ (v : ℕ → View). can_go n other me (v me) call) a.views;
       offered = offered_same n one other same a;
     }

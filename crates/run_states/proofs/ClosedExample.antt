@@ -8,7 +8,7 @@ use Rattle.picked_runs.specs.declared.turn.Pick.{Pick}
 use Rattle.picked_runs.specs.declared.turn.Pick.TheVariants.{First, Sender, Index}
 use Rattle.picked_runs.specs.Picks.{picked_event}
 use Rattle.run_states.specs.Futures.{SameFuture}
-use Rattle.run_states.specs.Moves.{AreClosed, IsMet, IsMove}
+use Rattle.run_states.specs.Moves.{AreClosed, IsVisited, IsMove}
 use Rattle.run_states.specs.Outcomes.{IsProbeKept}
 
 abbrev ends_at_once : Next
@@ -26,14 +26,14 @@ itself events = record { views = λ rank. refl; pairs = λ name. refl; made = re
 -- after no events the one move ends the rank
 abbrev GoesOn : List Event → Type 0
 GoesOn before =
-    (rank : ℕ) (call : Call) (pick : Pick) → IsMove ends_at_once 1 before rank call pick → IsMet 1 both (before ++ picked_event 1 before rank call pick ∷ [])
+    (rank : ℕ) (call : Call) (pick : Pick) → IsMove ends_at_once 1 before rank call pick → IsVisited 1 both (before ++ picked_event 1 before rank call pick ∷ [])
 
 at_first : GoesOn []
 at_first (suc rank) call pick move = (let below : suc rank < 1 = move.below in absurd (omega (arith, below)))
 at_first zero call First move =
     let asked : Some End ≡ Some call = move.asked in
     let same : End ≡ call = cc in
-    let F : Call → Type 0 = λ c. IsMet 1 both (picked_event 1 [] 0 c First ∷ []) in
+    let F : Call → Type 0 = λ c. IsVisited 1 both (picked_event 1 [] 0 c First ∷ []) in
     let here : F End = (ended, inr (inl refl), itself ended) in
     subst F same here
 at_first zero call (Sender sender) move =

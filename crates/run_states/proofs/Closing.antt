@@ -3,7 +3,7 @@ use Rattle.std.proofs.Common.{◌≡◌, ◌∙◌, ◌++◌, ◌∷◌, ℕ, Li
 use Rattle.mpi_call.specs.declared.call.Call.{Call}
 use Rattle.mpi_call.specs.declared.call.Halt.{Halt}
 use Rattle.run_model.specs.declared.event.Event.{Event}
-use Rattle.run_model.specs.Due.{halt_in, halted, or_else}
+use Rattle.run_model.specs.Due.{halt_of_reply, halted, or_else}
 use Rattle.run_model.specs.Lists.{Along}
 use Rattle.run_model.specs.Pairs.{IsMatched}
 use Rattle.run_model.specs.Run.{IsEvent, IsRun}
@@ -18,7 +18,7 @@ use Rattle.picked_runs.specs.Picks.{picked_event}
 use Rattle.picked_runs.specs.Picked.{IsPickedEvent}
 use Rattle.picked_runs.proofs.Making.{event_picked}
 use Rattle.run_states.specs.Futures.{SameEvent, SameFuture}
-use Rattle.run_states.specs.Moves.{AreClosed, IsMet, IsMove}
+use Rattle.run_states.specs.Moves.{AreClosed, IsVisited, IsMove}
 use Rattle.run_states.specs.Outcomes.{IsProbeKept}
 use Rattle.run_states.specs.StateLaws.{EveryPatientRunIsMet, EveryRunIsMet, IsPatientStep}
 use Rattle.run_states.proofs.HaltsSeen.{halted-append, no_halt_same}
@@ -45,7 +45,7 @@ free_back (Some halt) b h = absurd (cc)
 
 step_met : (next : Next) (n : ℕ) (IsWanted : List Event → Event → Type 0) (root : List Event) (visited : List (List Event)) → TellsAlike n IsWanted → AreClosed next n root IsWanted visited
     → (before : List Event) (event : Event) → IsMatched before → AllBelow n before → IsEvent next n before event → IsNumberedInOrder n before event
-    → IsWanted before event → halted before ≡ None → halt_in event.reply ≡ None → IsMet n visited before → IsMet n visited (before ++ event ∷ [])
+    → IsWanted before event → halted before ≡ None → halt_of_reply event.reply ≡ None → IsVisited n visited before → IsVisited n visited (before ++ event ∷ [])
 step_met next n IsWanted root visited tells closed before event matched all step ordered wanted none free met =
     let one : List Event = met.0 in
     let same : SameFuture n one before = met.2 in
@@ -60,7 +60,7 @@ step_met next n IsWanted root visited tells closed before event matched all step
       asked = step.call;
       offered = picked.offered;
       settled = settled_of n before event picked.event_is;
-      free = ap (λ (e : Event). halt_in e.reply) (sym picked.event_is) ∙ free;
+      free = ap (λ (e : Event). halt_of_reply e.reply) (sym picked.event_is) ∙ free;
     } in
     let there : IsMove next n one rank call pick = move_same next n before one rank call pick back a here in
     let first : Event = picked_event n before rank call pick in
@@ -71,29 +71,29 @@ step_met next n IsWanted root visited tells closed before event matched all step
     let next_met = closed.more one rank call pick met.1 there wanted_there in
     let grown : SameFuture n (one ++ second ∷ []) (before ++ first ∷ []) =
     same_back n (before ++ first ∷ []) (one ++ second ∷ []) (futures_grow n before one first second back event_same) in
-    let G : Event → Type 0 = λ e. IsMet n visited (before ++ e ∷ []) in
+    let G : Event → Type 0 = λ e. IsVisited n visited (before ++ e ∷ []) in
     subst G (sym picked.event_is) (next_met.0, next_met.1, same_on n next_met.0 (one ++ second ∷ []) (before ++ first ∷ []) next_met.2 grown)
 
 all_met : (next : Next) (n : ℕ) (IsWanted : List Event → Event → Type 0) (root : List Event) (visited : List (List Event)) → TellsAlike n IsWanted → AreClosed next n root IsWanted visited
     → (before events : List Event) → IsMatched before → AllBelow n before → Along (IsEvent next n) before events → Along (IsNumberedInOrder n) before events
-    → Along IsWanted before events → halted (before ++ events) ≡ None → IsMet n visited before → IsMet n visited (before ++ events)
+    → Along IsWanted before events → halted (before ++ events) ≡ None → IsVisited n visited before → IsVisited n visited (before ++ events)
 all_met next n IsWanted root visited tells closed before [] matched all run ordered wanted none met = rw append-nil met
 all_met next n IsWanted root visited tells closed before (event ∷ events) matched all run ordered wanted none met =
     let both : or_else (halted before) (halted (event ∷ events)) ≡ None = sym (halted-append before (event ∷ events)) ∙ none in
-    let later : or_else (halt_in event.reply) (halted events) ≡ None = free_back (halted before) (halted (event ∷ events)) both in
-    let more : IsMet n visited (before ++ event ∷ []) =
+    let later : or_else (halt_of_reply event.reply) (halted events) ≡ None = free_back (halted before) (halted (event ∷ events)) both in
+    let more : IsVisited n visited (before ++ event ∷ []) =
     step_met next n IsWanted root visited tells closed before event matched all run.0 ordered.0 wanted.0 (free_front (halted before) (halted (event ∷ events)) both)
-    (free_front (halt_in event.reply) (halted events) later) met in
+    (free_front (halt_of_reply event.reply) (halted events) later) met in
     let free : halted ((before ++ event ∷ []) ++ events) ≡ None = ap halted (append_assoc before (event ∷ []) events) ∙ none in
     let rest = all_met next n IsWanted root visited tells closed (before ++ event ∷ []) events run.0.matched (AllBelow-more n before event all run.0.rank) run.1 ordered.1 wanted.1 free more in
-    let H : List Event → Type 0 = λ l. IsMet n visited l in
+    let H : List Event → Type 0 = λ l. IsVisited n visited l in
     subst H (append_assoc before (event ∷ []) events) rest
 
 -- 3. from the first history on
 
 pub met_from : (next : Next) (n : ℕ) (IsWanted : List Event → Event → Type 0) → TellsAlike n IsWanted → (root more : List Event) (visited : List (List Event))
     → AreClosed next n root IsWanted visited → IsRun next n (root ++ more) → AreNumberedInOrder n (root ++ more) → Along IsWanted root more
-    → halted (root ++ more) ≡ None → IsMet n visited (root ++ more)
+    → halted (root ++ more) ≡ None → IsVisited n visited (root ++ more)
 met_from next n IsWanted tells root more visited closed is ordered wanted none =
     let front : IsRun next n root = IsRun-front next n root more is in
     all_met next n IsWanted root visited tells closed root more (run_matched next n root front) (all_below next n root front) (Along-back (IsEvent next n) [] root more is.along)

@@ -5,7 +5,7 @@ use Rattle.mpi_call.specs.declared.call.Call.{Call}
 use Rattle.mpi_call.specs.declared.reply.Reply.{Reply}
 use Rattle.mpi_call.specs.Calls.{comm_of}
 use Rattle.run_model.specs.declared.event.Event.{Event}
-use Rattle.run_model.specs.Communicators.{count_on, members_in}
+use Rattle.run_model.specs.Communicators.{count_on, members_for_rank}
 use Rattle.run_model.specs.Numbers.{Origin, communicators_of, entered_by_all, made_at, origins_from}
 use Rattle.run_model.specs.Pairs.{Name, pair_of, pair_with, pairs_of, partner_of, same_name}
 use Rattle.run_model.specs.Views.{View, is_start, starts_of, view_of}
@@ -13,7 +13,7 @@ use Rattle.run_model.proofs.Numbered.{communicators_of-push}
 use Rattle.run_model.proofs.Positions.{new_name}
 use Rattle.run_model.proofs.Views.{option_cases, test_cases, view_of-append}
 use Rattle.picked_runs.proofs.Grown.{pairs_of-push}
-use Rattle.run_states.specs.Futures.{SameEvent, SameFuture, mate_in}
+use Rattle.run_states.specs.Futures.{SameEvent, SameFuture, mate_name}
 
 -- 1. views
 
@@ -29,7 +29,7 @@ views_grow n one other a b same event rank =
 
 -- 2. pairs
 
-pair_is : (before : List Event) (event : Event) → pair_of before event ≡ pair_with (mate_in before event.mate) (new_name before event)
+pair_is : (before : List Event) (event : Event) → pair_of before event ≡ pair_with (mate_name before event.mate) (new_name before event)
 pair_is before event =
     elim (option_cases event.mate) [
       | inl some ↦ rw some.1 refl
@@ -62,7 +62,7 @@ pairs_grow : (n : ℕ) (one other : List Event) (a b : Event) → SameFuture n o
 pairs_grow n one other a b same event name =
     let pair : pair_of one a ≡ pair_of other b =
     pair_is one a ∙ (ap (λ m. pair_with m (new_name one a)) event.mate
-    ∙ (ap (pair_with (mate_in other b.mate)) (names_same n one other a b same event) ∙ sym (pair_is other b))) in
+    ∙ (ap (pair_with (mate_name other b.mate)) (names_same n one other a b same event) ∙ sym (pair_is other b))) in
     ap (λ l. partner_of l name) (pairs_of-push one a)
     ∙ (partner_more (pairs_of one) (pair_of one a) name
     ∙ (ap (λ o. first_of o (partner_of (pair_of one a) name)) (same.pairs name)
@@ -76,7 +76,7 @@ abbrev made_by : ℕ → (ℕ → View) → View → Call → Reply → List Ori
 made_by n after own call reply =
     if is_start (call, reply)
     then origins_from
-    (entered_by_all n after (comm_of call) (count_on (comm_of call) (starts_of own)) (members_in n own (comm_of call)))
+    (entered_by_all n after (comm_of call) (count_on (comm_of call) (starts_of own)) (members_for_rank n own (comm_of call)))
     (count_on (comm_of call) (starts_of own)) call
     else []
 

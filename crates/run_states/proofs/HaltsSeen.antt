@@ -8,22 +8,22 @@ use Rattle.mpi_call.specs.declared.reply.Reply.{Reply}
 use Rattle.mpi_call.specs.declared.reply.Reply.TheVariants.{Stopped}
 use Rattle.run_model.specs.declared.event.Event.{Event}
 use Rattle.run_model.specs.Allowed.{IsAllowedBy, IsStuck}
-use Rattle.run_model.specs.Due.{halt_at, halt_in, halted, is_full, or_else}
+use Rattle.run_model.specs.Due.{halt_at, halt_of_reply, halted, is_full, or_else}
 use Rattle.run_model.specs.Run.{IsEvent, IsRun}
-use Rattle.run_model.specs.Views.{Next, View, view_of}
+use Rattle.run_model.specs.Views.{Next, View, moment_at, view_of}
 use Rattle.run_model.proofs.Along.{Along-keeps}
 use Rattle.run_model.proofs.Views.{option_cases, test_cases, view_of-mine, view_of-other}
 
 -- the halt of the first Stopped reply of a view
 abbrev halt_of : View → Option Halt
 halt_of [] = None
-halt_of ((call, reply) ∷ view) = or_else (halt_in reply) (halt_of view)
+halt_of ((call, reply) ∷ view) = or_else (halt_of_reply reply) (halt_of view)
 
 -- it stands in some rank's view
 halt_seen : (events : List Event) (halt : Halt) → halted events ≡ Some halt → (rank : ℕ) × (halt_of (view_of events rank) ≡ Some halt)
 halt_seen [] halt h = absurd (cc)
 halt_seen (event ∷ events) halt h =
-    elim (option_cases (halt_in event.reply)) [
+    elim (option_cases (halt_of_reply event.reply)) [
       | inl some ↦ (event.rank, rw (eq-eqb event.rank event.rank refl, some.1) (rw some.1 at h))
       | inr none ↦
           let later = halt_seen events halt (rw none at h) in (
@@ -39,7 +39,7 @@ halt_seen (event ∷ events) halt h =
 none_seen : (events : List Event) (rank : ℕ) → halted events ≡ None → halt_of (view_of events rank) ≡ None
 none_seen [] rank h = refl
 none_seen (event ∷ events) rank h =
-    elim (option_cases (halt_in event.reply)) [
+    elim (option_cases (halt_of_reply event.reply)) [
       | inl some ↦ (let no : Some some.0 ≡ None = rw some.1 at h in absurd (cc))
       | inr none ↦
           let later : halt_of (view_of events rank) ≡ None = none_seen events rank (rw none at h) in
@@ -59,14 +59,14 @@ or_else-last (Some halt) = refl
 
 pub halted-append : (xs ys : List Event) → halted (xs ++ ys) ≡ or_else (halted xs) (halted ys)
 halted-append [] ys = refl
-halted-append (x ∷ xs) ys = rw (halted-append xs ys) (or_else-more (halt_in x.reply) (halted xs) (halted ys))
+halted-append (x ∷ xs) ys = rw (halted-append xs ys) (or_else-more (halt_of_reply x.reply) (halted xs) (halted ys))
 
-halted-more : (before : List Event) (event : Event) → halted (before ++ event ∷ []) ≡ or_else (halted before) (halt_in event.reply)
-halted-more before event = halted-append before (event ∷ []) ∙ ap (or_else (halted before)) (or_else-last (halt_in event.reply))
+halted-more : (before : List Event) (event : Event) → halted (before ++ event ∷ []) ≡ or_else (halted before) (halt_of_reply event.reply)
+halted-more before event = halted-append before (event ∷ []) ∙ ap (or_else (halted before)) (or_else-last (halt_of_reply event.reply))
 
-halt_of-more : (view : View) (call : Call) (reply : Reply) → halt_of (view ++ (call, reply) ∷ []) ≡ or_else (halt_of view) (halt_in reply)
-halt_of-more [] call reply = or_else-last (halt_in reply)
-halt_of-more ((c, r) ∷ view) call reply = rw (halt_of-more view call reply) (or_else-more (halt_in r) (halt_of view) (halt_in reply))
+halt_of-more : (view : View) (call : Call) (reply : Reply) → halt_of (view ++ (call, reply) ∷ []) ≡ or_else (halt_of view) (halt_of_reply reply)
+halt_of-more [] call reply = or_else-last (halt_of_reply reply)
+halt_of-more ((c, r) ∷ view) call reply = rw (halt_of-more view call reply) (or_else-more (halt_of_reply r) (halt_of view) (halt_of_reply reply))
 
 -- in a run each rank that has seen a halt has seen the run's
 record HasOneHalt (events : List Event) : Type 0 where
@@ -79,28 +79,28 @@ one_halt_more next n before event one step =
       each = λ rank halt h. elim (test_cases (event.rank == rank)) [
         | inl t ↦
             let mine : view_of (before ++ event ∷ []) rank ≡ view_of before rank ++ (event.call, event.reply) ∷ [] = view_of-mine before event rank (eqb-true event.rank rank t) in
-            let seen : or_else (halt_of (view_of before rank)) (halt_in event.reply) ≡ Some halt =
+            let seen : or_else (halt_of (view_of before rank)) (halt_of_reply event.reply) ≡ Some halt =
             sym (halt_of-more (view_of before rank) event.call event.reply) ∙ (ap halt_of (sym mine) ∙ h) in
             elim (option_cases (halt_of (view_of before rank))) [
               | inl was ↦
                   let same : Some was.0 ≡ Some halt = rw was.1 at seen in
-                  halted-more before event ∙ (ap (λ o. or_else o (halt_in event.reply)) (one.each rank was.0 was.1) ∙ same)
+                  halted-more before event ∙ (ap (λ o. or_else o (halt_of_reply event.reply)) (one.each rank was.0 was.1) ∙ same)
               | inr none ↦
-                  let last : halt_in event.reply ≡ Some halt = rw none at seen in
+                  let last : halt_of_reply event.reply ≡ Some halt = rw none at seen in
                   elim (option_cases (halted before)) [
                     | inl some ↦
                         let F : Option Halt → Type 0 = λ o. IsAllowedBy
                         (or_else o (if is_full before then Some Limit else halt_at n before event.rank (view_of before event.rank) event.call))
-                        (IsStuck next n before) n before event.rank (view_of before event.rank) event.call event.reply in
+                        (IsStuck next n before) (moment_at n before event.rank) event.call event.reply in
                         let stopped : event.reply ≡ Stopped some.0 = subst F some.1 step.reply in
-                        let same : Some some.0 ≡ Some halt = sym (ap halt_in stopped) ∙ last in
-                        halted-more before event ∙ (ap (λ o. or_else o (halt_in event.reply)) some.1 ∙ same)
-                    | inr free ↦ halted-more before event ∙ (ap (λ o. or_else o (halt_in event.reply)) free ∙ last)
+                        let same : Some some.0 ≡ Some halt = sym (ap halt_of_reply stopped) ∙ last in
+                        halted-more before event ∙ (ap (λ o. or_else o (halt_of_reply event.reply)) some.1 ∙ same)
+                    | inr free ↦ halted-more before event ∙ (ap (λ o. or_else o (halt_of_reply event.reply)) free ∙ last)
                   ]
             ]
         | inr f ↦
             let was : halt_of (view_of before rank) ≡ Some halt = ap halt_of (sym (view_of-other before event rank f)) ∙ h in
-            halted-more before event ∙ ap (λ o. or_else o (halt_in event.reply)) (one.each rank halt was)
+            halted-more before event ∙ ap (λ o. or_else o (halt_of_reply event.reply)) (one.each rank halt was)
       ];
     }
 

@@ -10,19 +10,19 @@ use Rattle.mpi_call.specs.declared.call.Kind.TheVariants.{Barrier, Bcast, Reduce
 use Rattle.mpi_call.specs.declared.call.Op.{Op}
 use Rattle.mpi_call.specs.Calls.{comm_of, ints_of}
 use Rattle.run_model.specs.declared.event.Event.{Event}
-use Rattle.run_model.specs.Communicators.{Entered, count_on, enter_at, entered_from, is_on, known_after, known_first, learned, members_in, or_none}
+use Rattle.run_model.specs.Communicators.{Entered, count_on, enter_at, entered_from, is_on, known_after, known_first, learned, members_for_rank, or_none}
 use Rattle.run_model.specs.Inputs.{push_ints, with_ints}
 use Rattle.run_model.specs.Lists.{world}
 use Rattle.run_model.specs.Numbers.{Origin, colours_entered, colours_made, entered_by_all, made_at, origins_from}
 use Rattle.run_model.specs.Views.{View, is_start, starts_of, view_of}
 use Rattle.run_model.proofs.CommunicatorLaws.{known_after-some}
 use Rattle.run_model.proofs.Views.{test_cases}
-use Rattle.run_states.specs.Origins.{colour_origins, enters_on, if_entered, is_enter_of, made_by}
+use Rattle.run_states.specs.inside.Origins.{colour_origins, enter_calls_on, if_entered, is_enter_of, origins_made}
 
 -- 1. an event and those behind it
 
 pub enters_front : (comm rank : ℕ) (event : Event) (after : List Event)
-    → enters_on comm (view_of (event ∷ after) rank) ≡ (if is_enter_of rank comm event then event.call ∷ enters_on comm (view_of after rank) else enters_on comm (view_of after rank))
+    → enter_calls_on comm (view_of (event ∷ after) rank) ≡ (if is_enter_of rank comm event then event.call ∷ enter_calls_on comm (view_of after rank) else enter_calls_on comm (view_of after rank))
 enters_front comm rank event after =
     elim (test_cases (event.rank == rank)) [
       | inl t ↦ rw t (elim (test_cases (is_start (event.call, event.reply))) [
@@ -54,7 +54,7 @@ count_front comm rank event after =
 abbrev call_in : Entered → Call
 call_in entered = entered.call
 
-calls_entered : (comm number : ℕ) (known : Option (List ℕ)) (view : View) → map call_in (entered_from comm number known view) ≡ enters_on comm view
+calls_entered : (comm number : ℕ) (known : Option (List ℕ)) (view : View) → map call_in (entered_from comm number known view) ≡ enter_calls_on comm view
 calls_entered comm number known [] = refl
 calls_entered comm number known ((call, reply) ∷ view) =
     elim (test_cases (is_start (call, reply))) [
@@ -65,7 +65,7 @@ calls_entered comm number known ((call, reply) ∷ view) =
       | inr t ↦ rw t (calls_entered comm number (learned comm known reply) view)
     ]
 
-pub enter_call : (n comm instance : ℕ) (view : View) → option_map call_in (enter_at n view comm instance) ≡ slice_get (enters_on comm view) instance
+pub enter_call : (n comm instance : ℕ) (view : View) → option_map call_in (enter_at n view comm instance) ≡ slice_get (enter_calls_on comm view) instance
 enter_call n comm instance view =
     sym (slice_get-map call_in (entered_from comm 0 (known_first n comm) view) instance)
     ∙ ap (λ l. slice_get l instance) (calls_entered comm 0 (known_first n comm) view)
@@ -91,12 +91,12 @@ without m None r h = refl
 without m (Some entered) r h = (let no : Some entered.call ≡ None = h in absurd (cc))
 
 -- one member more has entered, or has not
-pub gathered_some : (n : ℕ) (V : ℕ → View) (comm instance m : ℕ) (members : List ℕ) (call : Call) → slice_get (enters_on comm (V m)) instance ≡ Some call
+pub gathered_some : (n : ℕ) (V : ℕ → View) (comm instance m : ℕ) (members : List ℕ) (call : Call) → slice_get (enter_calls_on comm (V m)) instance ≡ Some call
     → if_entered (entered_by_all n V comm instance (m ∷ members)) ≡ pushed_front (ints_of call) (if_entered (entered_by_all n V comm instance members))
 gathered_some n V comm instance m members call h =
     with_given m (enter_at n (V m) comm instance) call (entered_by_all n V comm instance members) (enter_call n comm instance (V m) ∙ h)
 
-pub gathered_none : (n : ℕ) (V : ℕ → View) (comm instance m : ℕ) (members : List ℕ) → slice_get (enters_on comm (V m)) instance ≡ None
+pub gathered_none : (n : ℕ) (V : ℕ → View) (comm instance m : ℕ) (members : List ℕ) → slice_get (enter_calls_on comm (V m)) instance ≡ None
     → if_entered (entered_by_all n V comm instance (m ∷ members)) ≡ None
 gathered_none n V comm instance m members h =
     without m (enter_at n (V m) comm instance) (entered_by_all n V comm instance members) (enter_call n comm instance (V m) ∙ h)
@@ -116,12 +116,12 @@ pub known_later : (comm rank : ℕ) (event : Event) (after : List Event) → (ev
     → known_after comm None (view_of (event ∷ after) rank) ≡ known_after comm None (view_of after rank)
 known_later comm rank event after t h = rw t (ap (λ (o : Option (List ℕ)). known_after comm o (view_of after rank)) h)
 
-pub members_first : (n comm : ℕ) (view : View) → comm ≡ 0 → members_in n view comm ≡ world n 0
+pub members_first : (n comm : ℕ) (view : View) → comm ≡ 0 → members_for_rank n view comm ≡ world n 0
 members_first n comm view first =
-    let F : ℕ → Type 0 = λ c. members_in n view c ≡ world n 0 in
+    let F : ℕ → Type 0 = λ c. members_for_rank n view c ≡ world n 0 in
     subst F (sym first) (ap or_none (known_after-some 0 (world n 0) view))
 
-pub members_made : (n comm : ℕ) (view : View) → (comm == 0) ≡ false → members_in n view comm ≡ or_none (known_after comm None view)
+pub members_made : (n comm : ℕ) (view : View) → (comm == 0) ≡ false → members_for_rank n view comm ≡ or_none (known_after comm None view)
 members_made n comm view f = rw f refl
 
 -- 4. what an event makes
@@ -152,7 +152,7 @@ given_none (Err m) instance enter h = refl
 -- what is entered, by a call
 abbrev entered_with : ℕ → List Event → Event → Call → Result (List (List ℤ)) ℕ
 entered_with n before event call =
-    entered_by_all n (view_of (before ++ event ∷ [])) (comm_of call) (count_on (comm_of call) (starts_of (view_of before event.rank))) (members_in n (view_of before event.rank) (comm_of call))
+    entered_by_all n (view_of (before ++ event ∷ [])) (comm_of call) (count_on (comm_of call) (starts_of (view_of before event.rank))) (members_for_rank n (view_of before event.rank) (comm_of call))
 
 abbrev made_with : ℕ → List Event → Event → Call → List Origin
 made_with n before event call = origins_from (entered_with n before event call) (count_on (comm_of call) (starts_of (view_of before event.rank))) call
@@ -174,14 +174,14 @@ other_made n before event (Enter comm kind root op count ints) h = (let same : (
 -- an Enter that is the last of its instance makes these
 pub enter_made : (n : ℕ) (before : List Event) (event : Event) (comm : ℕ) (kind : Kind) (root : Option ℕ) (op : Option Op) (count : ℕ) (ints : List ℤ) (inputs : List (List ℤ))
     → if_entered (entered_with n before event (Enter comm kind root op count ints)) ≡ Some inputs
-    → made_with n before event (Enter comm kind root op count ints) ≡ made_by kind comm (count_on comm (starts_of (view_of before event.rank))) inputs
+    → made_with n before event (Enter comm kind root op count ints) ≡ origins_made kind comm (count_on comm (starts_of (view_of before event.rank))) inputs
 enter_made n before event comm kind root op count ints inputs h =
     ap (λ r. origins_from r (count_on comm (starts_of (view_of before event.rank))) (Enter comm kind root op count ints))
     (given_ok (entered_with n before event (Enter comm kind root op count ints)) inputs h)
     ∙ by_kind comm (count_on comm (starts_of (view_of before event.rank))) root op count ints inputs kind
   where
     by_kind : (comm instance : ℕ) (root : Option ℕ) (op : Option Op) (count : ℕ) (ints : List ℤ) (inputs : List (List ℤ)) (kind : Kind)
-        → origins_from (Ok inputs) instance (Enter comm kind root op count ints) ≡ made_by kind comm instance inputs
+        → origins_from (Ok inputs) instance (Enter comm kind root op count ints) ≡ origins_made kind comm instance inputs
     by_kind comm instance root op count ints inputs Split = split_map comm instance (colours_entered inputs)
     by_kind comm instance root op count ints inputs Dup = refl
     by_kind comm instance root op count ints inputs Barrier = refl
@@ -208,13 +208,13 @@ known_at comm rank (first ∷ after) event d members some is mine h =
     subst F (sym same) (known_here comm rank event after members (eq-eqb event.rank rank mine) h)
 
 pub gathered_none_at : (n : ℕ) (V : ℕ → View) (comm instance : ℕ) (inputs : List (List ℤ)) (rest members : List ℕ) (m d : ℕ) → 1 ≤ length rest → m ≡ get_or rest 0 d
-    → slice_get (enters_on comm (V m)) instance ≡ None
+    → slice_get (enter_calls_on comm (V m)) instance ≡ None
     → option_map (λ (more : List (List ℤ)). inputs ++ more) (if_entered (entered_by_all n V comm instance rest)) ≡ if_entered (entered_by_all n V comm instance members)
     → None ≡ if_entered (entered_by_all n V comm instance members)
 gathered_none_at n V comm instance inputs [] members m d some is h so_far = absurd (omega (arith, some))
 gathered_none_at n V comm instance inputs (first ∷ after) members m d some is h so_far =
     let same : first ≡ m = sym is in
-    let F : ℕ → Type 0 = λ k. slice_get (enters_on comm (V k)) instance ≡ None in
+    let F : ℕ → Type 0 = λ k. slice_get (enter_calls_on comm (V k)) instance ≡ None in
     let none : if_entered (entered_by_all n V comm instance (first ∷ after)) ≡ None = gathered_none n V comm instance first after (subst F (sym same) h) in
     sym (ap (λ (o : Option (List (List ℤ))). option_map (λ (more : List (List ℤ)). inputs ++ more) o) none) ∙ so_far
 
@@ -224,14 +224,14 @@ front_given inputs ints None = refl
 front_given inputs ints (Some rest) = ap (λ (l : List (List ℤ)). Some l) (append_assoc inputs (ints ∷ []) rest)
 
 pub gathered_some_at : (n : ℕ) (V : ℕ → View) (comm instance : ℕ) (inputs inputs' : List (List ℤ)) (rest members : List ℕ) (m d : ℕ) (call : Call) → 1 ≤ length rest → m ≡ get_or rest 0 d
-    → slice_get (enters_on comm (V m)) instance ≡ Some call → inputs' ≡ inputs ++ ints_of call ∷ []
+    → slice_get (enter_calls_on comm (V m)) instance ≡ Some call → inputs' ≡ inputs ++ ints_of call ∷ []
     → option_map (λ (more : List (List ℤ)). inputs ++ more) (if_entered (entered_by_all n V comm instance rest)) ≡ if_entered (entered_by_all n V comm instance members)
     → option_map (λ (more : List (List ℤ)). inputs' ++ more) (if_entered (entered_by_all n V comm instance (take (length rest - 1) (drop 1 rest))))
     ≡ if_entered (entered_by_all n V comm instance members)
 gathered_some_at n V comm instance inputs inputs' [] members m d call some is h grown so_far = absurd (omega (arith, some))
 gathered_some_at n V comm instance inputs inputs' (first ∷ after) members m d call some is h grown so_far =
     let same : first ≡ m = sym is in
-    let F : ℕ → Type 0 = λ k. slice_get (enters_on comm (V k)) instance ≡ Some call in
+    let F : ℕ → Type 0 = λ k. slice_get (enter_calls_on comm (V k)) instance ≡ Some call in
     let front : if_entered (entered_by_all n V comm instance (first ∷ after)) ≡ pushed_front (ints_of call) (if_entered (entered_by_all n V comm instance after)) =
     gathered_some n V comm instance first after call (subst F (sym same) h) in
     let left : suc (length after) - 1 ≡ length after = omega arith in
@@ -244,13 +244,13 @@ gathered_some_at n V comm instance inputs inputs' (first ∷ after) members m d 
 
 pub made_there : (n : ℕ) (before events : List Event) (event : Event) (members : List ℕ) (comm : ℕ) (kind : Kind) (root : Option ℕ) (op : Option Op) (count : ℕ) (ints : List ℤ) (instance : ℕ) (inputs : List (List ℤ))
     → event.call ≡ Enter comm kind root op count ints → is_start (event.call, event.reply) ≡ true → events ≡ before ++ event ∷ []
-    → members ≡ members_in n (view_of before event.rank) comm → instance ≡ count_on comm (starts_of (view_of before event.rank))
+    → members ≡ members_for_rank n (view_of before event.rank) comm → instance ≡ count_on comm (starts_of (view_of before event.rank))
     → if_entered (entered_by_all n (view_of events) comm instance members) ≡ Some inputs
-    → made_at n before event ≡ made_by kind comm instance inputs
+    → made_at n before event ≡ origins_made kind comm instance inputs
 made_there n before events event members comm kind root op count ints instance inputs call start whole all at given =
     let enter : Call = Enter comm kind root op count ints in
     let E : List Event → ℕ → List ℕ → Option (List (List ℤ)) = λ l i ms. if_entered (entered_by_all n (view_of l) comm i ms) in
     let here : if_entered (entered_with n before event enter) ≡ Some inputs =
     sym (ap (λ l. E l instance members) whole ∙ (ap (λ i. E (before ++ event ∷ []) i members) at ∙ ap (E (before ++ event ∷ []) (count_on comm (starts_of (view_of before event.rank)))) all)) ∙ given in
     made_start n before event start ∙ (ap (made_with n before event) call ∙ (enter_made n before event comm kind root op count ints inputs here
-    ∙ ap (λ i. made_by kind comm i inputs) (sym at)))
+    ∙ ap (λ i. origins_made kind comm i inputs) (sym at)))

@@ -36,7 +36,7 @@ map_at f g (suc count) from k e low high =
 no_partner : (events : List Event) (name : Name) → IsMatched events → named events name ≡ None → partner_of (pairs_of events) name ≡ None
 no_partner events name matched none =
     elim (option_cases (partner_of (pairs_of events) name)) [
-      | inl some ↦ elim (matched.pair name some.0 some.1) [
+      | inl some ↦ elim (matched.pairs_accept name some.0 some.1) [
         | inl takes ↦ (let no : None ≡ Some takes.post_call = sym none ∙ takes.post_is in absurd (cc))
         | inr takes ↦ (let no : None ≡ Some takes.send_call = sym none ∙ takes.send_is in absurd (cc))
       ]

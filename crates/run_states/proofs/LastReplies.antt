@@ -9,12 +9,12 @@ use Rattle.mpi_call.specs.declared.reply.Reply.{Reply}
 use Rattle.mpi_call.specs.declared.reply.Reply.TheVariants.{Stopped}
 use Rattle.run_model.specs.declared.event.Event.{Event}
 use Rattle.run_model.specs.Allowed.{IsAllowedBy, IsStuck}
-use Rattle.run_model.specs.Due.{halt_at, halt_in, halted, is_full, or_else}
+use Rattle.run_model.specs.Due.{halt_at, halt_of_reply, halted, is_full, or_else}
 use Rattle.run_model.specs.Lists.{Along}
 use Rattle.run_model.specs.Program.{ends}
 use Rattle.run_model.specs.Run.{IsEvent, IsRun}
 use Rattle.run_model.specs.Serial.{call_after}
-use Rattle.run_model.specs.Views.{Next, View, replies_in, view_of}
+use Rattle.run_model.specs.Views.{Next, View, moment_at, replies_in, view_of}
 use Rattle.run_model.proofs.Along.{Along-snoc}
 use Rattle.run_model.proofs.RunLaws.{Lawful, kept_run}
 use Rattle.run_model.proofs.Views.{option_cases, test_cases, view_of-mine, view_of-other}
@@ -29,12 +29,12 @@ pub record HasFirstHalt (events : List Event) (halt : Halt) : Type 0 where
   pub after : List Event
   pub whole : events ≡ before ++ event ∷ after
   pub none : halted before ≡ None
-  pub here : halt_in event.reply ≡ Some halt
+  pub here : halt_of_reply event.reply ≡ Some halt
 
 pub first_halt : (events : List Event) (halt : Halt) → halted events ≡ Some halt → HasFirstHalt events halt
 first_halt [] halt h = absurd (cc)
 first_halt (event ∷ events) halt h =
-    elim (option_cases (halt_in event.reply)) [
+    elim (option_cases (halt_of_reply event.reply)) [
       | inl some ↦
           let same : Some some.0 ≡ Some halt = rw some.1 at h in
           record { before = []; event = event; after = events; whole = refl; none = refl; here = some.1 ∙ same }
@@ -43,7 +43,7 @@ first_halt (event ∷ events) halt h =
           record { before = event ∷ f.before; event = f.event; after = f.after; whole = ap (λ l. event ∷ l) f.whole; none = rw none f.none; here = f.here }
     ]
 
-pub stopped_by : (reply : Reply) (halt : Halt) → halt_in reply ≡ Some halt → reply ≡ Stopped halt
+pub stopped_by : (reply : Reply) (halt : Halt) → halt_of_reply reply ≡ Some halt → reply ≡ Stopped halt
 stopped_by (Stopped other) halt h = (let same : other ≡ halt = cc in ap (λ x. Stopped x) same)
 stopped_by reply halt h = absurd (cc)
 
@@ -66,7 +66,7 @@ stopped_again : (next : Next) (n : ℕ) (now : List Event) (event : Event) (halt
 stopped_again next n now event halt h step =
     let F : Option Halt → Type 0 = λ o. IsAllowedBy
     (or_else o (if is_full now then Some Limit else halt_at n now event.rank (view_of now event.rank) event.call))
-    (IsStuck next n now) n now event.rank (view_of now event.rank) event.call event.reply in
+    (IsStuck next n now) (moment_at n now event.rank) event.call event.reply in
     subst F h step.reply
 
 last_own : (next : Next) (n : ℕ) (base now : List Event) (event : Event) (halt : Halt) → Lawful next → IsRun next n now → IsEvent next n now event
@@ -120,7 +120,7 @@ replies_more [] call reply = refl
 replies_more (seen ∷ view) call reply = ap (λ l. seen.1 ∷ l) (replies_more view call reply)
 
 pub last_is : (next : Next) (n : ℕ) (before after : List Event) (event : Event) (halt : Halt) → Lawful next → IsRun next n before → halted before ≡ None
-    → Along (IsEvent next n) before (event ∷ after) → halt_in event.reply ≡ Some halt
+    → Along (IsEvent next n) before (event ∷ after) → halt_of_reply event.reply ≡ Some halt
     → ((rank : ℕ) → rank < n → call_after next n (before ++ event ∷ after) rank ≡ None)
     → (rank : ℕ) → rank < n → replies_in (view_of (before ++ event ∷ after) rank) ≡ last_replies next n before halt rank
 last_is next n before after event halt lawful run none steps here ended rank below =

@@ -4,7 +4,7 @@ use Rattle.mpi_call.specs.declared.call.Call.{Call}
 use Rattle.run_model.specs.declared.event.Event.{Event}
 use Rattle.run_model.specs.Chosen.{order_of}
 use Rattle.run_model.specs.Lists.{Along}
-use Rattle.run_model.specs.Pairs.{AreMatched, IsMatched, Name, Takes, named, pairs_of, partner_of}
+use Rattle.run_model.specs.Pairs.{AreMatched, IsMatched, Name, PostAccepts, named, pairs_of, partner_of}
 use Rattle.run_model.specs.Run.{IsEvent, IsRun}
 use Rattle.run_model.specs.Views.{Next, View, start_at}
 use Rattle.run_model.proofs.Along.{Along-back, Along-snoc}
@@ -17,8 +17,9 @@ use Rattle.picked_runs.specs.Picked.{IsPicked, IsPickedEvent, picks_and}
 use Rattle.picked_runs.proofs.GoingOn.{picks_go_on}
 use Rattle.picked_runs.proofs.Making.{event_picked, every_run_is_picked}
 use Rattle.picked_runs.proofs.Numbering.{picks_number_in_order}
+use Rattle.srr_entry.specs.Outputs.{Output}
 use Rattle.run_states.specs.Futures.{SameEvent, SameFuture}
-use Rattle.run_states.specs.Outcomes.{IsProbeKept, Output}
+use Rattle.run_states.specs.Outcomes.{IsProbeKept}
 use Rattle.run_states.specs.StateLaws.{FuturesAreSame}
 use Rattle.run_states.proofs.HaltsSeen.{halts_same}
 use Rattle.run_states.proofs.Alike.{Alike, alike}
@@ -34,7 +35,7 @@ use Rattle.run_states.proofs.OutcomesMet.{outcome_same}
 
 -- 1. pairs meet their conditions in one as in the other
 
-takes_same : (N M : Name → Option Call) → ((name : Name) → N name ≡ M name) → (post send : Name) → Takes N post send → Takes M post send
+takes_same : (N M : Name → Option Call) → ((name : Name) → N name ≡ M name) → (post send : Name) → PostAccepts N post send → PostAccepts M post send
 takes_same N M names post send takes =
     record {
       post_call = takes.post_call;
@@ -49,16 +50,16 @@ conditions_same : (N M : Name → Option Call) (P Q : List (Name × Name)) → (
 conditions_same N M P Q names pairs matched =
     let back : (name : Name) → M name ≡ N name = λ name. sym (names name) in
     record {
-      pair = λ a b h. elim (matched.pair a b (pairs a ∙ h)) [
+      pairs_accept = λ a b h. elim (matched.pairs_accept a b (pairs a ∙ h)) [
         | inl takes ↦ inl (takes_same N M names a b takes)
         | inr takes ↦ inr (takes_same N M names b a takes)
       ];
-      single = λ a b h. sym (pairs b) ∙ matched.single a b (pairs a ∙ h);
-      sends = λ post send h start less takes. ap is_some (sym (pairs (send.0, start)))
-          ∙ matched.sends post send (pairs post ∙ h) start less (takes_same M N back post (send.0, start) takes);
-      posts = λ post send h start less takes. ap is_some (sym (pairs (post.0, start)))
-          ∙ matched.posts post send (pairs post ∙ h) start less (takes_same M N back (post.0, start) send takes);
-      closed = λ post send takes p q. matched.closed post send (takes_same M N back post send takes) (pairs post ∙ p) (pairs send ∙ q);
+      one_partner = λ a b h. sym (pairs b) ∙ matched.one_partner a b (pairs a ∙ h);
+      no_overtaking = λ post send h start less takes. ap is_some (sym (pairs (send.0, start)))
+          ∙ matched.no_overtaking post send (pairs post ∙ h) start less (takes_same M N back post (send.0, start) takes);
+      earliest_receive = λ post send h start less takes. ap is_some (sym (pairs (post.0, start)))
+          ∙ matched.earliest_receive post send (pairs post ∙ h) start less (takes_same M N back (post.0, start) send takes);
+      nothing_waits = λ post send takes p q. matched.nothing_waits post send (takes_same M N back post send takes) (pairs post ∙ p) (pairs send ∙ q);
     }
 
 matched_same : (n : ℕ) (one other : List Event) → SameFuture n one other → IsMatched one → IsMatched other

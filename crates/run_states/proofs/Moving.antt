@@ -4,9 +4,9 @@ use Rattle.mpi_call.specs.declared.call.Call.{Call}
 use Rattle.mpi_call.specs.declared.call.Halt.{Halt}
 use Rattle.run_model.specs.declared.event.Event.{Event}
 use Rattle.run_model.specs.Allowed.{IsStuck, can_go}
-use Rattle.run_model.specs.Due.{halt_in}
+use Rattle.run_model.specs.Due.{halt_of_reply}
 use Rattle.run_model.specs.Serial.{call_after}
-use Rattle.run_model.specs.Views.{Next, View, replies_in, view_of}
+use Rattle.run_model.specs.Views.{Next, View, moment_at, replies_in, view_of}
 use Rattle.picked_runs.specs.declared.turn.Pick.{Pick}
 use Rattle.picked_runs.specs.Picks.{picked_event}
 use Rattle.run_states.specs.Futures.{SameEvent, SameFuture}
@@ -33,7 +33,7 @@ move_same next n one other rank call pick same a move =
       asked = sym (asks_same next n one other rank same) ∙ move.asked;
       offered = sym (offered_same n one other same a rank call pick) ∙ move.offered;
       settled = settled_same n one other same a rank call pick move.settled;
-      free = sym (ap halt_in event.reply) ∙ move.free;
+      free = sym (ap halt_of_reply event.reply) ∙ move.free;
     }
 
 stuck_same : (next : Next) (n : ℕ) (one other : List Event) → SameFuture n one other → Alike n one other → IsStuck next n one → IsStuck next n other
@@ -50,7 +50,7 @@ goes_or_stuck_same next n one other rank call same a goes =
     ]
 
 pub halting_same : (next : Next) (n : ℕ) (one other : List Event) (rank : ℕ) (call : Call) (pick : Pick) (halt : Halt) → SameFuture n one other → Alike n one other
-    → IsHalting next n one rank call pick halt → IsHalting next n other rank call pick halt
+    → IsHalting next (moment_at n one rank) call pick halt → IsHalting next (moment_at n other rank) call pick halt
 halting_same next n one other rank call pick halt same a h =
     let event : SameEvent one other (picked_event n one rank call pick) (picked_event n other rank call pick) =
     events_same n one other same a rank call pick h.offered h.settled in

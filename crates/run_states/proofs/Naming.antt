@@ -15,7 +15,7 @@ use Rattle.run_model.proofs.Positions.{name_at-lower, name_position}
 use Rattle.run_model.proofs.Views.{option_cases}
 use Rattle.picked_runs.specs.Picks.{call_from, looks}
 use Rattle.picked_runs.proofs.Narrowing.{suits_back}
-use Rattle.run_states.specs.Futures.{SameFuture, mate_in}
+use Rattle.run_states.specs.Futures.{SameFuture, mate_name}
 
 pub same_back : (n : ℕ) (one other : List Event) → SameFuture n one other → SameFuture n other one
 same_back n one other same = record { views = λ rank. sym (same.views rank); pairs = λ name. sym (same.pairs name); made = sym same.made }
@@ -51,7 +51,7 @@ not_before n one other same me call a b p q owner less =
     omega arith
 
 pub choice_names : (n : ℕ) (one other : List Event) → SameFuture n one other → (me : ℕ) (call : Call) → HasOneOwner me call
-    → mate_in one (choice one me call) ≡ mate_in other (choice other me call)
+    → mate_name one (choice one me call) ≡ mate_name other (choice other me call)
 choice_names n one other same me call owns =
     elim (option_cases (choice one me call)) [
       | inl a ↦
@@ -71,23 +71,23 @@ choice_names n one other same me call owns =
                 ] in
                 let pair : ℕ → ℕ → Name = λ r k. (r, k) in
                 let name : x ≡ y = ap (λ r. pair r x.1) owner ∙ ap (pair y.0) number in
-                ap (mate_in one) a.1 ∙ (p.chosen.there ∙ (ap (λ (m : Name). Some m) name ∙ sym (ap (mate_in other) b.1 ∙ q.chosen.there)))
+                ap (mate_name one) a.1 ∙ (p.chosen.there ∙ (ap (λ (m : Name). Some m) name ∙ sym (ap (mate_name other) b.1 ∙ q.chosen.there)))
             | inr none ↦
                 let m = open_moves n one other same me call a.0 p.chosen in
                 absurd (choice_none other me call none m.0 m.1)
           ]
-      | inr none ↦ ap (mate_in one) none ∙ sym (ap (mate_in other) (none_moves n one other same me call none))
+      | inr none ↦ ap (mate_name one) none ∙ sym (ap (mate_name other) (none_moves n one other same me call none))
     ]
 
 -- a choice has a name
-pub is_named : (before : List Event) (me : ℕ) (call : Call) → is_some (choice before me call) ≡ is_some (mate_in before (choice before me call))
+pub is_named : (before : List Event) (me : ℕ) (call : Call) → is_some (choice before me call) ≡ is_some (mate_name before (choice before me call))
 is_named before me call =
     elim (option_cases (choice before me call)) [
       | inl some ↦
-          let there : mate_in before (choice before me call) ≡ Some (choice_some before me call some.0 some.1).chosen.name =
-          ap (mate_in before) some.1 ∙ (choice_some before me call some.0 some.1).chosen.there in
+          let there : mate_name before (choice before me call) ≡ Some (choice_some before me call some.0 some.1).chosen.name =
+          ap (mate_name before) some.1 ∙ (choice_some before me call some.0 some.1).chosen.there in
           ap is_some some.1 ∙ sym (ap is_some there)
-      | inr none ↦ ap is_some none ∙ sym (ap (λ o. is_some (mate_in before o)) none)
+      | inr none ↦ ap is_some none ∙ sym (ap (λ o. is_some (mate_name before o)) none)
     ]
 
 -- a Send suits receives of its destination

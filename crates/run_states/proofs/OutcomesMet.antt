@@ -8,12 +8,12 @@ use Rattle.mpi_call.specs.declared.reply.Reply.{Reply}
 use Rattle.run_model.specs.declared.ending.Ending.{Ending}
 use Rattle.run_model.specs.declared.ending.Ending.TheVariants.{Halted}
 use Rattle.run_model.specs.declared.event.Event.{Event}
-use Rattle.run_model.specs.Due.{halt_in, halted, or_else}
+use Rattle.run_model.specs.Due.{halt_of_reply, halted, or_else}
 use Rattle.run_model.specs.Endings.{ending_by, ending_of}
 use Rattle.run_model.specs.Lists.{Along, are_below}
 use Rattle.run_model.specs.Run.{IsEvent, IsRun}
 use Rattle.run_model.specs.Serial.{call_after}
-use Rattle.run_model.specs.Views.{Next, View, replies_in, view_of}
+use Rattle.run_model.specs.Views.{Next, View, moment_at, replies_in, view_of}
 use Rattle.run_model.proofs.Along.{Along-back, Along-front}
 use Rattle.run_model.proofs.Halts.{names, was_stopped}
 use Rattle.run_model.proofs.MemberLists.{AreMembers-world}
@@ -23,9 +23,10 @@ use Rattle.picked_runs.specs.Made.{pick_of}
 use Rattle.picked_runs.specs.Numbering.{AreNumberedInOrder, IsNumberedInOrder}
 use Rattle.picked_runs.specs.Picked.{IsPickedEvent}
 use Rattle.picked_runs.proofs.Making.{event_picked}
+use Rattle.srr_entry.specs.Outputs.{Output}
 use Rattle.run_states.specs.Futures.{SameFuture}
-use Rattle.run_states.specs.Moves.{AreClosed, IsHalting, IsMet}
-use Rattle.run_states.specs.Outcomes.{IsProbeKept, IsWhole, Outcome, Output, ending_told, halted_outcome, last_replies, outcome_of, ranks_told, replies_and}
+use Rattle.run_states.specs.Moves.{AreClosed, IsHalting, IsVisited}
+use Rattle.run_states.specs.Outcomes.{IsProbeKept, IsWholeRun, RunOutcome, reported_ending, halted_outcome, last_replies, outcome_of_run, reported_ranks, replies_and}
 use Rattle.run_states.specs.StateLaws.{EveryOutcomeIsMet, EveryPatientOutcomeIsMet, HaltsDecideOutcomes, IsOutcomeMet, IsPatientStep}
 use Rattle.run_states.proofs.HaltsSeen.{halted-append, no_halt_same}
 use Rattle.run_states.proofs.Alike.{Alike, alike}
@@ -56,7 +57,7 @@ named_below : (next : Next) (n : ℕ) (run : List Event) (halt : Halt) (rank : �
 named_below next n run halt rank kept h named = one_below n rank (stopped_below next n run rank kept (kept.halts.each halt rank h named))
 
 told_below : (next : Next) (n : ℕ) (run : List Event) (halt : Halt) → 0 < n → Kept next n run → halted run ≡ Some halt
-    → are_below n (ranks_told n (Halted halt)) ≡ true
+    → are_below n (reported_ranks n (Halted halt)) ≡ true
 told_below next n run Stuck some kept h = (AreMembers-world n 0 some).below
 told_below next n run (Aborted rank code) some kept h = named_below next n run (Aborted rank code) rank kept h (eq-eqb rank rank refl)
 told_below next n run (Trapped rank fault) some kept h = named_below next n run (Trapped rank fault) rank kept h (eq-eqb rank rank refl)
@@ -79,16 +80,16 @@ printed_same output n first second (rank ∷ ranks) same below =
     ap (λ replies. one replies ∷ printed_by output n first ranks) (same rank (ltb-true rank n parts.0))
     ∙ ap (λ l. one (second rank) ∷ l) (printed_same output n first second ranks same parts.1)
 
-abbrev outcome_by : Output → ℕ → Ending → (ℕ → List Reply) → Outcome
-outcome_by output n ending replies = record { ending = ending_told ending; printed = printed_by output n replies (ranks_told n ending) }
+abbrev outcome_by : Output → ℕ → Ending → (ℕ → List Reply) → RunOutcome
+outcome_by output n ending replies = record { ending = reported_ending ending; printed = printed_by output n replies (reported_ranks n ending) }
 
-abbrev outcome_with : Ending → List (ℕ × List ℕ) → Outcome
-outcome_with ending printed = record { ending = ending_told ending; printed = printed }
+abbrev outcome_with : Ending → List (ℕ × List ℕ) → RunOutcome
+outcome_with ending printed = record { ending = reported_ending ending; printed = printed }
 
 -- where one came
 pub halt_outcome : (next : Next) (output : Output) (n : ℕ) → Lawful next → (before after : List Event) (event : Event) (halt : Halt)
     → IsRun next n (before ++ event ∷ after) → ((rank : ℕ) → rank < n → call_after next n (before ++ event ∷ after) rank ≡ None)
-    → halted before ≡ None → halt_in event.reply ≡ Some halt → outcome_of output n (before ++ event ∷ after) ≡ halted_outcome next output n before halt
+    → halted before ≡ None → halt_of_reply event.reply ≡ Some halt → outcome_of_run output n (before ++ event ∷ after) ≡ halted_outcome next output n before halt
 halt_outcome next output n lawful before after event halt is ended none here =
     let run : List Event = before ++ event ∷ after in
     let front : IsRun next n before = IsRun-front next n before (event ∷ after) is in
@@ -98,7 +99,7 @@ halt_outcome next output n lawful before after event halt is ended none here =
     let last : (rank : ℕ) → rank < n → replies_in (view_of run rank) ≡ last_replies next n before halt rank = last_is next n before after event halt lawful front none steps here ended in
     let below = told_below next n run halt is.some (kept_run next n run lawful is) all in
     ap (λ o. outcome_by output n (ending_by o) (λ rank. replies_in (view_of run rank))) all
-    ∙ ap (outcome_with (Halted halt)) (printed_same output n (λ rank. replies_in (view_of run rank)) (last_replies next n before halt) (ranks_told n (Halted halt)) last below)
+    ∙ ap (outcome_with (Halted halt)) (printed_same output n (λ rank. replies_in (view_of run rank)) (last_replies next n before halt) (reported_ranks n (Halted halt)) last below)
 
 -- what a halt decides goes by the future
 halted_same : (next : Next) (output : Output) (n : ℕ) (one other : List Event) (halt : Halt) → SameFuture n one other
@@ -111,7 +112,7 @@ halted_same next output n one other halt same =
 
 -- runs that leave the same come to the same
 pub outcome_same : (output : Output) (n : ℕ) (one other : List Event) → halted one ≡ halted other → ((rank : ℕ) → view_of one rank ≡ view_of other rank)
-    → outcome_of output n one ≡ outcome_of output n other
+    → outcome_of_run output n one ≡ outcome_of_run output n other
 outcome_same output n one other halts same =
     let views : view_of one ≡ view_of other = fun_ext same in
     ap (λ o. outcome_by output n (ending_by o) (λ rank. replies_in (view_of one rank))) halts
@@ -119,13 +120,13 @@ outcome_same output n one other halts same =
 
 -- 3. what whole runs come to
 
--- each beginning of a run, from some events on and up to its first halt, is met
+-- each prefix of a run, from some events on and up to its first halt, is met
 abbrev MeetsBeginnings : ℕ → List (List Event) → List Event → List Event → Type 0
 MeetsBeginnings n visited root more =
-    (mid after : List Event) → more ≡ mid ++ after → halted (root ++ mid) ≡ None → IsMet n visited (root ++ mid)
+    (mid after : List Event) → more ≡ mid ++ after → halted (root ++ mid) ≡ None → IsVisited n visited (root ++ mid)
 
 halting_of : (next : Next) (n : ℕ) (before : List Event) (event : Event) (halt : Halt) → Kept next n before → IsEvent next n before event → IsNumberedInOrder n before event
-    → halt_in event.reply ≡ Some halt → IsHalting next n before event.rank event.call (pick_of n before event) halt
+    → halt_of_reply event.reply ≡ Some halt → IsHalting next (moment_at n before event.rank) event.call (pick_of n before event) halt
 halting_of next n before event halt kept step ordered here =
     let picked : IsPickedEvent n before event (pick_of n before event) = event_picked next n before event kept.matched kept.below step ordered in
     record {
@@ -140,8 +141,8 @@ halting_of next n before event halt kept step ordered here =
 halted_met : (next : Next) (output : Output) (n : ℕ) (visited : List (List Event)) → Lawful next → (before after : List Event) (event : Event) (halt : Halt)
     → IsRun next n (before ++ event ∷ after) → AreNumberedInOrder n (before ++ event ∷ after)
     → ((rank : ℕ) → rank < n → call_after next n (before ++ event ∷ after) rank ≡ None)
-    → halted before ≡ None → halt_in event.reply ≡ Some halt → IsMet n visited before
-    → IsOutcomeMet next output n visited (outcome_of output n (before ++ event ∷ after))
+    → halted before ≡ None → halt_of_reply event.reply ≡ Some halt → IsVisited n visited before
+    → IsOutcomeMet next output n visited (outcome_of_run output n (before ++ event ∷ after))
 halted_met next output n visited lawful before after event halt is ordered ended none here met =
     let one : List Event = met.0 in
     let same : SameFuture n one before = met.2 in
@@ -150,7 +151,7 @@ halted_met next output n visited lawful before after event halt is ordered ended
     let front : IsRun next n before = IsRun-front next n before (event ∷ after) is in
     let steps = Along-back (IsEvent next n) [] before (event ∷ after) is.along in
     let numbers = Along-back (IsNumberedInOrder n) [] before (event ∷ after) ordered in
-    let halting : IsHalting next n before event.rank event.call (pick_of n before event) halt =
+    let halting : IsHalting next (moment_at n before event.rank) event.call (pick_of n before event) halt =
     halting_of next n before event halt (kept_run next n before lawful front) steps.0 numbers.0 here in (
       one,
       met.1,
@@ -164,8 +165,8 @@ halted_met next output n visited lawful before after event halt is ordered ended
       }),
     )
 
-whole_met : (next : Next) (output : Output) (n : ℕ) (root more : List Event) (visited : List (List Event)) → Lawful next → IsWhole next n (root ++ more) → halted root ≡ None
-    → MeetsBeginnings n visited root more → IsOutcomeMet next output n visited (outcome_of output n (root ++ more))
+whole_met : (next : Next) (output : Output) (n : ℕ) (root more : List Event) (visited : List (List Event)) → Lawful next → IsWholeRun next n (root ++ more) → halted root ≡ None
+    → MeetsBeginnings n visited root more → IsOutcomeMet next output n visited (outcome_of_run output n (root ++ more))
 whole_met next output n root more visited lawful whole none meets =
     elim (option_cases (halted more)) [
       | inl some ↦
@@ -176,7 +177,7 @@ whole_met next output n root more visited lawful whole none meets =
           let R : List Event → Type 0 = λ l. IsRun next n l in
           let N : List Event → Type 0 = λ l. AreNumberedInOrder n l in
           let E : List Event → Type 0 = λ l. (rank : ℕ) → rank < n → call_after next n l rank ≡ None in
-          let O : List Event → Type 0 = λ l. IsOutcomeMet next output n visited (outcome_of output n l) in
+          let O : List Event → Type 0 = λ l. IsOutcomeMet next output n visited (outcome_of_run output n l) in
           subst O (sym split)
           (halted_met next output n visited lawful before f.after f.event some.0 (subst R split whole.run) (subst N split whole.numbered) (subst E split whole.ended)
           free f.here (meets f.before (f.event ∷ f.after) f.whole free))
@@ -197,8 +198,8 @@ whole_met next output n root more visited lawful whole none meets =
 
 -- where all that is wanted of a run's steps holds from some events on
 wanted_met : (next : Next) (output : Output) (n : ℕ) (IsWanted : List Event → Event → Type 0) → TellsAlike n IsWanted → Lawful next → (root more : List Event) (visited : List (List Event))
-    → AreClosed next n root IsWanted visited → IsWhole next n (root ++ more) → Along IsWanted root more → halted root ≡ None
-    → IsOutcomeMet next output n visited (outcome_of output n (root ++ more))
+    → AreClosed next n root IsWanted visited → IsWholeRun next n (root ++ more) → Along IsWanted root more → halted root ≡ None
+    → IsOutcomeMet next output n visited (outcome_of_run output n (root ++ more))
 wanted_met next output n IsWanted tells lawful root more visited closed whole wanted none =
     whole_met next output n root more visited lawful whole none (λ mid after e free. (
     let R : List Event → Type 0 = λ l. IsRun next n l in
@@ -222,4 +223,4 @@ every_patient_outcome_is_met next output n lawful most root more visited closed 
 
 pub halts_decide_outcomes : (next : Next) (output : Output) (n : ℕ) → Lawful next → HaltsDecideOutcomes next output n
 halts_decide_outcomes next output n lawful before after event halt is ended none stopped =
-    halt_outcome next output n lawful before after event halt is ended none (ap halt_in stopped)
+    halt_outcome next output n lawful before after event halt is ended none (ap halt_of_reply stopped)

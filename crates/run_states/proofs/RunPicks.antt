@@ -12,23 +12,23 @@ use Rattle.mpi_call.specs.declared.reply.Reply.{Reply}
 use Rattle.mpi_call.specs.declared.reply.Reply.TheVariants.{Peeked}
 use Rattle.mpi_call.specs.Calls.{listed_by}
 use Rattle.run_model.specs.declared.event.Event.{Event}
-use Rattle.run_model.specs.Allowed.{first_long, flags_of, holds, taken_reply, true_places}
+use Rattle.run_model.specs.Allowed.{first_long, flags_of, mode_holds, taken_reply, true_places}
 use Rattle.run_model.specs.Choice.{choice}
 use Rattle.run_model.specs.Chosen.{got_of, halt_or, held_reply, items_at, peek_reply, peeked_at, peeked_in}
 use Rattle.run_model.specs.Due.{due}
 use Rattle.run_model.specs.Pairs.{named}
 use Rattle.run_model.specs.Shape.{is_test}
-use Rattle.run_model.specs.Views.{View, start_at, view_of}
+use Rattle.run_model.specs.Views.{View, moment_at, moment_of, start_at, view_of}
 use Rattle.run_model.proofs.Choosing.{IsOpenAt, choice_none, choice_some}
 use Rattle.run_model.proofs.ChosenGots.{accepted_send}
 use Rattle.run_model.proofs.Views.{option_cases}
 use Rattle.picked_runs.specs.declared.turn.Pick.{Pick}
 use Rattle.picked_runs.specs.declared.turn.Pick.TheVariants.{First, Sender, Index}
 use Rattle.picked_runs.specs.Picks.{call_from, completes_one, has_pick, is_offered, is_ready_at, looks, picked_answer, picked_event, picked_mate, picked_places, picked_reply}
-use Rattle.picked_runs.specs.Made.{index_in, pick_by, pick_of, pick_unless, sender_in}
+use Rattle.picked_runs.specs.Made.{index_in, pick_by, pick_of, pick_unless, pick_of_partner}
 use Rattle.picked_runs.proofs.Allowing.{pick_there}
 use Rattle.picked_runs.proofs.Narrowing.{suits_back}
-use Rattle.run_states.specs.Moves.{HasNoPick, IsSettled}
+use Rattle.run_states.specs.Moves.{HasNoPick, IsPickSettled}
 
 -- an event that picked nothing, where no halt is due
 record IsPlain (n : ℕ) (before : List Event) (me : ℕ) (call : Call) (reply : Reply) (mate : Option ℕ) : Type 0 where
@@ -44,7 +44,7 @@ plain_finds n before me (Post comm source tag room) reply mate at p look found =
     let call : Call = Post comm source tag room in
     let o = (choice_some before me call at found).chosen in
     let mated : mate ≡ Some at = p.mate_is ∙ (ap (λ r. picked_mate before me call r First) p.reply_is ∙ found) in
-    let no : Sender o.name.0 ≡ First = sym (ap sender_in o.there) ∙ (sym (ap (pick_by before call reply) mated) ∙ p.pick_is) in
+    let no : Sender o.name.0 ≡ First = sym (ap pick_of_partner o.there) ∙ (sym (ap (pick_by before call reply) mated) ∙ p.pick_is) in
     cc
 plain_finds n before me (Peek comm source tag wait) reply mate at p look found =
     let call : Call = Peek comm source tag wait in
@@ -97,24 +97,24 @@ taken_index starts me None item items h = cc
 taken_index starts me (Some k) item items h = cc
 
 one_taken : (n : ℕ) (before : List Event) (me : ℕ) (own : View) (starts : List ℕ) (mode : TakeMode) (reply : Reply)
-    → holds mode (flags_of n before me own starts) ≡ list_any (λ x. x) (flags_of n before me own starts)
-    → picked_places mode (flags_of n before me own starts) First ≡ take 1 (true_places 0 (flags_of n before me own starts))
+    → mode_holds mode (flags_of (moment_of n before me own) starts) ≡ list_any (λ x. x) (flags_of (moment_of n before me own) starts)
+    → picked_places mode (flags_of (moment_of n before me own) starts) First ≡ take 1 (true_places 0 (flags_of (moment_of n before me own) starts))
     → reply ≡ picked_answer n before me own (Take starts mode) First → index_in starts reply ≡ First
-    → list_any (λ x. x) (flags_of n before me own starts) ≡ true → ⊥
+    → list_any (λ x. x) (flags_of (moment_of n before me own) starts) ≡ true → ⊥
 one_taken n before me own starts mode reply held places reply_is pick_is any =
-    let flags : List Bool = flags_of n before me own starts in
+    let flags : List Bool = flags_of (moment_of n before me own) starts in
     let first = first_place flags 0 any in
     let R : Bool → List ℕ → Reply = λ holding indices. (
-    let items : List Item = items_at n before me own starts indices in
+    let items : List Item = items_at (moment_of n before me own) starts indices in
     let taken : Reply = taken_reply me (first_long own starts items) items in
     if holding then taken else held_reply (is_test mode)) in
-    let item : Item = record { index = first.0; got = got_of n before me own (slice_index starts first.0) (start_at own (slice_index starts first.0)) } in
+    let item : Item = record { index = first.0; got = got_of (moment_of n before me own) (slice_index starts first.0) (start_at own (slice_index starts first.0)) } in
     let replied : reply ≡ R true (first.0 ∷ []) =
     reply_is ∙ (ap (λ b. R b (picked_places mode flags First)) (held ∙ any) ∙ ap (R true) (places ∙ first.1)) in
     taken_index starts me (first_long own starts (item ∷ [])) item [] (sym (ap (index_in starts) replied) ∙ pick_is)
 
 plain_completes : (n : ℕ) (before : List Event) (me : ℕ) (call : Call) (reply : Reply) (mate : Option ℕ) → IsPlain n before me call reply mate
-    → completes_one call ≡ true → list_any (λ x. x) (flags_of n before me (view_of before me) (listed_by call)) ≡ true → ⊥
+    → completes_one call ≡ true → list_any (λ x. x) (flags_of (moment_at n before me) (listed_by call)) ≡ true → ⊥
 plain_completes n before me (Take starts AnyOne) reply mate p one any = one_taken n before me (view_of before me) starts AnyOne reply refl refl p.reply_is p.pick_is any
 plain_completes n before me (Take starts TestAny) reply mate p one any = one_taken n before me (view_of before me) starts TestAny reply refl refl p.reply_is p.pick_is any
 plain_completes n before me (Take starts All) reply mate p one any = absurd (cc)
@@ -133,7 +133,7 @@ plain_indices : (n : ℕ) (before : List Event) (me : ℕ) (call : Call) (reply 
     → (index : ℕ) → has_pick n before me call (Index index) ≡ true → ⊥
 plain_indices n before me call reply mate p index h =
     let there = pick_there n before me call (Index index) (λ e. absurd (cc)) h in
-    let flags : List Bool = flags_of n before me (view_of before me) (listed_by call) in
+    let flags : List Bool = flags_of (moment_at n before me) (listed_by call) in
     let parts = and_parts (completes_one call) (is_ready_at flags index) there.offered in
     plain_completes n before me call reply mate p parts.0 (any_ready flags index parts.1)
 
@@ -141,7 +141,7 @@ plain_indices n before me call reply mate p index h =
 
 settled_by : (n : ℕ) (before : List Event) (event : Event) (pick : Pick) → due n before event.rank (view_of before event.rank) event.call ≡ None
     → event ≡ picked_event n before event.rank event.call pick → pick_by before event.call event.reply event.mate ≡ pick
-    → IsSettled n before event.rank event.call pick
+    → IsPickSettled n before event.rank event.call pick
 settled_by n before event (Sender sender) none made is = tt
 settled_by n before event (Index index) none made is = tt
 settled_by n before event First none made is =
@@ -169,13 +169,13 @@ no_pick_due n before me call halt h =
     }
 
 pub settled_of : (n : ℕ) (before : List Event) (event : Event) → event ≡ picked_event n before event.rank event.call (pick_of n before event)
-    → IsSettled n before event.rank event.call (pick_of n before event)
+    → IsPickSettled n before event.rank event.call (pick_of n before event)
 settled_of n before event made =
     let due_is : Option Halt = due n before event.rank (view_of before event.rank) event.call in
     let P : Pick = pick_by before event.call event.reply event.mate in
     elim (option_cases due_is) [
       | inl some ↦
-          let F : Option Halt → Type 0 = λ o. IsSettled n before event.rank event.call (pick_unless o P) in
+          let F : Option Halt → Type 0 = λ o. IsPickSettled n before event.rank event.call (pick_unless o P) in
           subst F (sym some.1) (no_pick_due n before event.rank event.call some.0 some.1)
       | inr none ↦ settled_by n before event (pick_of n before event) none made (sym (ap (λ (o : Option Halt). pick_unless o P) none))
     ]

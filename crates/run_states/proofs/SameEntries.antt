@@ -18,7 +18,7 @@ use Rattle.srr_entry.specs.declared.entry.Entry.{Entry}
 use Rattle.srr_entry.specs.declared.log.Log.{Log}
 use Rattle.srr_entry.specs.Entries.{entries_for, entry_of}
 use Rattle.srr_entry.proofs.EntryPlaces.{entry_in_log, entry_past}
-use Rattle.replay_model.specs.Filling.{filled}
+use Rattle.replay_model.specs.Filling.{filled_reply}
 use Rattle.replay_model.specs.Laws.{IsRunWith}
 use Rattle.replay_model.proofs.Filled.{filled-same}
 use Rattle.replay_model.proofs.Fillings.{Begins-within, filled_allowed, within, within_begins}
@@ -26,10 +26,10 @@ use Rattle.replay_model.proofs.Prefix.{InRun, in_run}
 
 -- over the whole run, the entry of a place stands for its reply
 filled_there : (next : Next) (n : ℕ) (group : List ℕ) (run : List Event) (rank : ℕ) (view : View) (call : Call) (reply : Reply) → InRun next n run rank view call reply
-    → filled n (within group (view_of run)) rank view call (entry_of n group rank view call reply) ≡ Ok reply
+    → filled_reply n (within group (view_of run)) rank view call (entry_of n group rank view call reply) ≡ Ok reply
 filled_there next n group run rank view call reply at =
     let entry : Entry = entry_of n group rank view call reply in
-    let there : filled n (within group (view_of at.before)) rank view call entry ≡ Ok reply = rw at.view_is at (filled_allowed next n group at.before rank call reply at.allowed) in
+    let there : filled_reply n (within group (view_of at.before)) rank view call entry ≡ Ok reply = rw at.view_is at (filled_allowed next n group at.before rank call reply at.allowed) in
     (filled-same n (within group (view_of at.before)) (within group (view_of run)) view rank call entry reply (Begins-within group (view_of at.before) (view_of run) at.begins) there).fill ∙ there
 
 -- the next event of one run stands in the other too
@@ -62,11 +62,11 @@ next_seen next log one other before after event ((call, reply) ∷ rest) first s
     let V : ℕ → View = within group (view_of before) in
     let W : ℕ → View = within group (view_of other) in
     let longer : Begins V W = λ r. prefix_trans (V r) (view_of before r) (W r) (within_begins group (view_of before) r) (begins r) in
-    let fill : filled n V rank own event.call mine ≡ Ok event.reply = filled_allowed next n group before rank event.call event.reply step.reply in
-    let whole : filled n W rank own event.call mine ≡ Ok event.reply = (filled-same n V W own rank event.call mine event.reply longer fill).fill ∙ fill in
-    let recorded : filled n W rank own call theirs ≡ Ok reply = filled_there next n group other rank own call reply at in
+    let fill : filled_reply n V rank own event.call mine ≡ Ok event.reply = filled_allowed next n group before rank event.call event.reply step.reply in
+    let whole : filled_reply n W rank own event.call mine ≡ Ok event.reply = (filled-same n V W own rank event.call mine event.reply longer fill).fill ∙ fill in
+    let recorded : filled_reply n W rank own call theirs ≡ Ok reply = filled_there next n group other rank own call reply at in
     let replies : Ok reply ≡ Ok event.reply =
-    sym recorded ∙ (ap (λ c. filled n W rank own c theirs) same_call ∙ (ap (λ x. filled n W rank own event.call x) entry ∙ whole)) in
+    sym recorded ∙ (ap (λ c. filled_reply n W rank own c theirs) same_call ∙ (ap (λ x. filled_reply n W rank own event.call x) entry ∙ whole)) in
     let same_reply : reply ≡ event.reply = cc in
     let seen : Call → Reply → View = λ c r. own ++ (c, r) ∷ rest in
     (rest, append_assoc own ((event.call, event.reply) ∷ []) rest ∙ (ap (λ c. seen c event.reply) (sym same_call) ∙ (ap (seen call) (sym same_reply) ∙ h)))

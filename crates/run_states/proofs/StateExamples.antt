@@ -16,14 +16,15 @@ use Rattle.run_model.specs.declared.ending.Ending.{Ending}
 use Rattle.run_model.specs.declared.ending.Ending.TheVariants.{Finished, Halted}
 use Rattle.run_model.specs.declared.event.Event.{Event}
 use Rattle.run_model.specs.Pairs.{Name, pairs_of, partner_of}
-use Rattle.run_model.specs.Serial.{at_first, rounds}
+use Rattle.run_model.specs.Serial.{first_stage, rounds}
 use Rattle.run_model.specs.Views.{Next, view_of}
 use Rattle.picked_runs.specs.declared.turn.Pick.TheVariants.{First, Sender}
 use Rattle.picked_runs.specs.declared.turn.Turn.{Turn}
 use Rattle.picked_runs.specs.Picks.{picked_event}
 use Rattle.picked_runs.specs.Turns.{take_turns}
-use Rattle.run_states.specs.Futures.{mate_in}
-use Rattle.run_states.specs.Outcomes.{IsProbeKept, Outcome, Output, outcome_of, vain_in}
+use Rattle.srr_entry.specs.Outputs.{Output}
+use Rattle.run_states.specs.Futures.{mate_name}
+use Rattle.run_states.specs.Outcomes.{IsProbeKept, RunOutcome, outcome_of_run, vain_in}
 
 -- programs whose ranks make these calls whatever the replies
 abbrev Script : Type 0
@@ -34,7 +35,7 @@ script calls n rank replies = slice_get (calls rank) (length replies)
 
 -- the events of these turns and so many rounds
 abbrev recorded : Script → ℕ → List Turn → ℕ → List Event
-recorded calls n turns count = (rounds (script calls) n count (take_turns (script calls) n at_first turns)).events
+recorded calls n turns count = (rounds (script calls) n count (take_turns (script calls) n first_stage turns)).events
 
 abbrev plain : ℕ → Turn
 plain rank = record { rank = rank; pick = First }
@@ -55,7 +56,7 @@ senders_in (reply ∷ replies) = senders_in replies
 abbrev senders : Output
 senders n rank replies = senders_in replies
 
-abbrev outcome : Ending → List (ℕ × List ℕ) → Outcome
+abbrev outcome : Ending → List (ℕ × List ℕ) → RunOutcome
 outcome ending printed = record { ending = ending; printed = printed }
 
 -- 1. rank 0 receives from any and then from rank 2; ranks 1 and 2 send to it
@@ -63,10 +64,10 @@ abbrev deadlock : Script
 deadlock zero = Post 0 Any AnyTag 1 ∷ Take (0 ∷ []) All ∷ Post 0 (From 2) AnyTag 1 ∷ Take (1 ∷ []) All ∷ End ∷ []
 deadlock rank = Send 0 0 1 [] false ∷ End ∷ []
 
-finishes : outcome_of senders 3 (recorded deadlock 3 [] 5) ≡ outcome Finished ((0, 1 ∷ 2 ∷ []) ∷ (1, []) ∷ (2, []) ∷ [])
+finishes : outcome_of_run senders 3 (recorded deadlock 3 [] 5) ≡ outcome Finished ((0, 1 ∷ 2 ∷ []) ∷ (1, []) ∷ (2, []) ∷ [])
 finishes = refl
 
-sticks : outcome_of senders 3 (recorded deadlock 3 (plain 1 ∷ plain 2 ∷ from 0 2 ∷ []) 3) ≡ outcome (Halted Stuck) ((0, 2 ∷ []) ∷ (1, []) ∷ (2, []) ∷ [])
+sticks : outcome_of_run senders 3 (recorded deadlock 3 (plain 1 ∷ plain 2 ∷ from 0 2 ∷ []) 3) ≡ outcome (Halted Stuck) ((0, 2 ∷ []) ∷ (1, []) ∷ (2, []) ∷ [])
 sticks = refl
 
 -- whoever sends first: one future, though the mate stands elsewhere
@@ -85,17 +86,17 @@ other_places = refl
 and_others : (picked_event 3 sent_crosswise 0 receives (Sender 2)).mate ≡ Some 0
 and_others = refl
 
-one_name : mate_in sent_in_order (picked_event 3 sent_in_order 0 receives (Sender 2)).mate ≡ Some (2, 0)
+one_name : mate_name sent_in_order (picked_event 3 sent_in_order 0 receives (Sender 2)).mate ≡ Some (2, 0)
 one_name = refl
 
-same_name : mate_in sent_crosswise (picked_event 3 sent_crosswise 0 receives (Sender 2)).mate ≡ Some (2, 0)
+same_name : mate_name sent_crosswise (picked_event 3 sent_crosswise 0 receives (Sender 2)).mate ≡ Some (2, 0)
 same_name = refl
 
 -- where nothing is picked, the name goes by the order
-first_name : mate_in sent_in_order (picked_event 3 sent_in_order 0 receives First).mate ≡ Some (1, 0)
+first_name : mate_name sent_in_order (picked_event 3 sent_in_order 0 receives First).mate ≡ Some (1, 0)
 first_name = refl
 
-second_name : mate_in sent_crosswise (picked_event 3 sent_crosswise 0 receives First).mate ≡ Some (2, 0)
+second_name : mate_name sent_crosswise (picked_event 3 sent_crosswise 0 receives First).mate ≡ Some (2, 0)
 second_name = refl
 
 -- 2. rank 0 sends to 2 and then to 1, which answers by a message to 2; rank 2 receives two messages from any
@@ -107,10 +108,10 @@ race rank = Post 0 Any AnyTag 1 ∷ Take (0 ∷ []) All ∷ Post 0 Any AnyTag 1 
 abbrev sent : List Turn → List Turn
 sent turns = plain 0 ∷ plain 0 ∷ plain 1 ∷ plain 1 ∷ plain 1 ∷ turns
 
-earlier_first : outcome_of senders 3 (recorded race 3 (sent []) 5) ≡ outcome Finished ((0, []) ∷ (1, 0 ∷ []) ∷ (2, 0 ∷ 1 ∷ []) ∷ [])
+earlier_first : outcome_of_run senders 3 (recorded race 3 (sent []) 5) ≡ outcome Finished ((0, []) ∷ (1, 0 ∷ []) ∷ (2, 0 ∷ 1 ∷ []) ∷ [])
 earlier_first = refl
 
-later_first : outcome_of senders 3 (recorded race 3 (sent (from 2 1 ∷ [])) 5) ≡ outcome Finished ((0, []) ∷ (1, 0 ∷ []) ∷ (2, 1 ∷ 0 ∷ []) ∷ [])
+later_first : outcome_of_run senders 3 (recorded race 3 (sent (from 2 1 ∷ [])) 5) ≡ outcome Finished ((0, []) ∷ (1, 0 ∷ []) ∷ (2, 1 ∷ 0 ∷ []) ∷ [])
 later_first = refl
 
 -- right after the receive all views are the same, and the pairs are not
@@ -132,16 +133,16 @@ crooked zero = Send 0 1 1 [] false ∷ barrier ∷ Take (1 ∷ []) All ∷ End �
 crooked (suc zero) = Post 0 Any AnyTag 1 ∷ barrier ∷ Take (1 ∷ []) All ∷ Take (0 ∷ []) All ∷ Post 0 Any AnyTag 1 ∷ Take (2 ∷ []) All ∷ End ∷ []
 crooked rank = barrier ∷ Take (0 ∷ []) All ∷ Send 0 1 1 [] false ∷ End ∷ []
 
-abbrev one_way : Outcome
+abbrev one_way : RunOutcome
 one_way = outcome Finished ((0, []) ∷ (1, 0 ∷ 2 ∷ []) ∷ (2, []) ∷ [])
 
-in_rounds : outcome_of senders 3 (recorded crooked 3 [] 7) ≡ one_way
+in_rounds : outcome_of_run senders 3 (recorded crooked 3 [] 7) ≡ one_way
 in_rounds = refl
 
-receiver_first : outcome_of senders 3 (recorded crooked 3 (plain 1 ∷ plain 1 ∷ plain 2 ∷ plain 0 ∷ plain 0 ∷ plain 2 ∷ plain 2 ∷ []) 7) ≡ one_way
+receiver_first : outcome_of_run senders 3 (recorded crooked 3 (plain 1 ∷ plain 1 ∷ plain 2 ∷ plain 0 ∷ plain 0 ∷ plain 2 ∷ plain 2 ∷ []) 7) ≡ one_way
 receiver_first = refl
 
-receiver_last : outcome_of senders 3 (recorded crooked 3 (plain 2 ∷ plain 0 ∷ plain 0 ∷ plain 1 ∷ plain 1 ∷ plain 2 ∷ plain 2 ∷ []) 7) ≡ one_way
+receiver_last : outcome_of_run senders 3 (recorded crooked 3 (plain 2 ∷ plain 0 ∷ plain 0 ∷ plain 1 ∷ plain 1 ∷ plain 2 ∷ plain 2 ∷ []) 7) ≡ one_way
 receiver_last = refl
 
 -- 4. two ranks enter otherwise: the outcome does not name who came second
@@ -149,10 +150,10 @@ abbrev apart : Script
 apart zero = barrier ∷ End ∷ []
 apart rank = Enter 0 Barrier None None 1 [] ∷ End ∷ []
 
-lower_first : outcome_of senders 2 (recorded apart 2 (plain 0 ∷ plain 1 ∷ []) 2) ≡ outcome (Halted (Mismatched 0)) []
+lower_first : outcome_of_run senders 2 (recorded apart 2 (plain 0 ∷ plain 1 ∷ []) 2) ≡ outcome (Halted (Mismatched 0)) []
 lower_first = refl
 
-upper_first : outcome_of senders 2 (recorded apart 2 (plain 1 ∷ plain 0 ∷ []) 2) ≡ outcome (Halted (Mismatched 0)) []
+upper_first : outcome_of_run senders 2 (recorded apart 2 (plain 1 ∷ plain 0 ∷ []) 2) ≡ outcome (Halted (Mismatched 0)) []
 upper_first = refl
 
 -- 5. a probe finds rank 1's message, and the receive takes rank 0's

@@ -89,9 +89,9 @@ abbrev pub code_of_made : List Origin → List ℤ
 code_of_made made = code_of_list code_of_origin made
 
 -- a key
-abbrev pub code_of : Key → List ℤ
-code_of key = code_of_lists key.entries ++ (code_of_partners key.partners ++ code_of_made key.made)
+abbrev pub key_code : Key → List ℤ
+key_code key = code_of_lists key.entries ++ (code_of_partners key.partners ++ code_of_made key.made)
 
 -- keys of one code are the same
 abbrev pub CodesFixKeys : Type 0
-CodesFixKeys = (one other : Key) → code_of one ≡ code_of other → one ≡ other
+CodesFixKeys = (one other : Key) → key_code one ≡ key_code other → one ≡ other

@@ -12,13 +12,13 @@ pub record SameFuture (n : ℕ) (one other : List Event) : Type 0 where
   pub made : communicators_of n one ≡ communicators_of n other
 
 -- the start that a mate names
-abbrev pub mate_in : List Event → Option ℕ → Option Name
-mate_in before None = None
-mate_in before (Some at) = name_at before at
+abbrev pub mate_name : List Event → Option ℕ → Option Name
+mate_name before None = None
+mate_name before (Some at) = name_at before at
 
 -- two events, each after its history, are the same but for where their mates stand: these name the same start
 pub record SameEvent (one other : List Event) (first second : Event) : Type 0 where
   pub rank : first.rank ≡ second.rank
   pub call : first.call ≡ second.call
   pub reply : first.reply ≡ second.reply
-  pub mate : mate_in one first.mate ≡ mate_in other second.mate
+  pub mate : mate_name one first.mate ≡ mate_name other second.mate

@@ -22,8 +22,8 @@ pub record Key : Type 0 where
   pub made : List Origin
 
 -- the key of a history of n ranks
-abbrev pub key_of : ℕ → List Event → Key
-key_of n events =
+abbrev pub state_key : ℕ → List Event → Key
+state_key n events =
     record {
       entries = (log_of [] n events (world n 0)).lists;
       partners = map (partners_in events) (world n 0);
@@ -33,8 +33,8 @@ key_of n events =
 -- runs of one key leave the same
 abbrev pub KeysFixFutures : Next → ℕ → Type 0
 KeysFixFutures next n =
-    (one other : List Event) → IsRun next n one → IsRun next n other → key_of n one ≡ key_of n other → SameFuture n one other
+    (one other : List Event) → IsRun next n one → IsRun next n other → state_key n one ≡ state_key n other → SameFuture n one other
 
 -- and histories that leave the same have one key
 abbrev pub FuturesFixKeys : ℕ → Type 0
-FuturesFixKeys n = (one other : List Event) → SameFuture n one other → key_of n one ≡ key_of n other
+FuturesFixKeys n = (one other : List Event) → SameFuture n one other → state_key n one ≡ state_key n other

@@ -4,4 +4,4 @@ pub mod Moves
 pub mod StateLaws
 pub mod Keys
 pub mod Codes
-pub mod Origins
+pub mod inside

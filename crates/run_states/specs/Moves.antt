@@ -6,9 +6,9 @@ use Rattle.mpi_call.specs.declared.reply.Reply.TheVariants.{Stopped}
 use Rattle.mpi_call.specs.Lists.{IsIn}
 use Rattle.run_model.specs.declared.event.Event.{Event}
 use Rattle.run_model.specs.Allowed.{IsStuck, can_go}
-use Rattle.run_model.specs.Due.{halt_in}
+use Rattle.run_model.specs.Due.{halt_of_reply}
 use Rattle.run_model.specs.Serial.{call_after}
-use Rattle.run_model.specs.Views.{Next, view_of}
+use Rattle.run_model.specs.Views.{Moment, Next}
 use Rattle.picked_runs.specs.declared.turn.Pick.{Pick}
 use Rattle.picked_runs.specs.declared.turn.Pick.TheVariants.{First, Sender, Index}
 use Rattle.picked_runs.specs.Picks.{has_pick, picked_event, picked_reply}
@@ -20,33 +20,33 @@ pub record HasNoPick (n : ℕ) (before : List Event) (me : ℕ) (call : Call) : 
   pub indices : (index : ℕ) → has_pick n before me call (Index index) ≡ false
 
 -- nothing is picked only where nothing can be, so the pick leaves nothing to the order of events
-abbrev pub IsSettled : ℕ → List Event → ℕ → Call → Pick → Type 0
-IsSettled n before me call First = HasNoPick n before me call
-IsSettled n before me call pick = Unit {0}
+abbrev pub IsPickSettled : ℕ → List Event → ℕ → Call → Pick → Type 0
+IsPickSettled n before me call First = HasNoPick n before me call
+IsPickSettled n before me call pick = Unit {0}
 
 -- a rank's next call can be answered with this pick, and by no halt
 pub record IsMove (next : Next) (n : ℕ) (before : List Event) (rank : ℕ) (call : Call) (pick : Pick) : Type 0 where
   pub below : rank < n
   pub asked : call_after next n before rank ≡ Some call
   pub offered : has_pick n before rank call pick ≡ true
-  pub settled : IsSettled n before rank call pick
-  pub free : halt_in (picked_reply n before rank call pick) ≡ None
+  pub settled : IsPickSettled n before rank call pick
+  pub free : halt_of_reply (picked_reply n before rank call pick) ≡ None
 
--- a rank's next call is answered with this pick, and by this halt; Stuck is so only where no call can go
-pub record IsHalting (next : Next) (n : ℕ) (before : List Event) (rank : ℕ) (call : Call) (pick : Pick) (halt : Halt) : Type 0 where
-  pub below : rank < n
-  pub asked : call_after next n before rank ≡ Some call
-  pub offered : has_pick n before rank call pick ≡ true
-  pub settled : IsSettled n before rank call pick
-  pub halts : picked_reply n before rank call pick ≡ Stopped halt
-  pub goes : (can_go n before rank (view_of before rank) call ≡ true) ⊎ IsStuck next n before
+-- the asking rank's next call is answered with this pick, and by this halt; Stuck is so only where no call can go
+pub record IsHalting (next : Next) (moment : Moment) (call : Call) (pick : Pick) (halt : Halt) : Type 0 where
+  pub below : moment.me < moment.ranks
+  pub asked : call_after next moment.ranks moment.before moment.me ≡ Some call
+  pub offered : has_pick moment.ranks moment.before moment.me call pick ≡ true
+  pub settled : IsPickSettled moment.ranks moment.before moment.me call pick
+  pub halts : picked_reply moment.ranks moment.before moment.me call pick ≡ Stopped halt
+  pub goes : (can_go moment.ranks moment.before moment.me moment.own call ≡ true) ⊎ IsStuck next moment.ranks moment.before
 
 -- among these histories is one that leaves what this one leaves
-abbrev pub IsMet : ℕ → List (List Event) → List Event → Type 0
-IsMet n visited events = (one : List Event) × IsIn one visited × SameFuture n one events
+abbrev pub IsVisited : ℕ → List (List Event) → List Event → Type 0
+IsVisited n visited events = (one : List Event) × IsIn one visited × SameFuture n one events
 
 -- these histories have met a first one, and of each of them what its moves make, as far as the steps are wanted
 pub record AreClosed (next : Next) (n : ℕ) (root : List Event) (IsWanted : List Event → Event → Type 0) (visited : List (List Event)) : Type 0 where
-  pub first : IsMet n visited root
+  pub first : IsVisited n visited root
   pub more : (before : List Event) (rank : ℕ) (call : Call) (pick : Pick) → IsIn before visited → IsMove next n before rank call pick
-      → IsWanted before (picked_event n before rank call pick) → IsMet n visited (before ++ picked_event n before rank call pick ∷ [])
+      → IsWanted before (picked_event n before rank call pick) → IsVisited n visited (before ++ picked_event n before rank call pick ∷ [])

@@ -17,39 +17,36 @@ use Rattle.run_model.specs.Run.{IsRun}
 use Rattle.run_model.specs.Serial.{call_after}
 use Rattle.run_model.specs.Views.{Next, View, replies_in, view_of}
 use Rattle.picked_runs.specs.Numbering.{AreNumberedInOrder}
-use Rattle.run_states.specs.Futures.{mate_in}
-
--- what a rank has printed, by the number of ranks, the rank and the replies that it got
-abbrev pub Output : Type 0
-Output = ℕ → ℕ → List Reply → List ℕ
+use Rattle.srr_entry.specs.Outputs.{Output}
+use Rattle.run_states.specs.Futures.{mate_name}
 
 -- how a run ended, and what ranks printed, each with its rank
-pub record Outcome : Type 0 where
+pub record RunOutcome : Type 0 where
   pub ending : Ending
   pub printed : List (ℕ × List ℕ)
 
 -- the ranks whose outputs tell a run with this ending from others: all of them where no rank was stopped on its way, else the one that
 -- brought the halt; what others had printed by then is chance
-abbrev pub ranks_told : ℕ → Ending → List ℕ
-ranks_told n Finished = world n 0
-ranks_told n (Halted Stuck) = world n 0
-ranks_told n (Halted (Aborted rank code)) = rank ∷ []
-ranks_told n (Halted (Trapped rank fault)) = rank ∷ []
-ranks_told n (Halted (Truncated rank start)) = rank ∷ []
-ranks_told n (Halted (BadRequest rank start)) = rank ∷ []
-ranks_told n (Halted halt) = []
+abbrev pub reported_ranks : ℕ → Ending → List ℕ
+reported_ranks n Finished = world n 0
+reported_ranks n (Halted Stuck) = world n 0
+reported_ranks n (Halted (Aborted rank code)) = rank ∷ []
+reported_ranks n (Halted (Trapped rank fault)) = rank ∷ []
+reported_ranks n (Halted (Truncated rank start)) = rank ∷ []
+reported_ranks n (Halted (BadRequest rank start)) = rank ∷ []
+reported_ranks n (Halted halt) = []
 
 -- the ending as it is told: that of a mismatch without its rank, which is whoever entered second
-abbrev pub ending_told : Ending → Ending
-ending_told (Halted (Mismatched rank)) = Halted (Mismatched 0)
-ending_told ending = ending
+abbrev pub reported_ending : Ending → Ending
+reported_ending (Halted (Mismatched rank)) = Halted (Mismatched 0)
+reported_ending ending = ending
 
 -- what a run comes to
-abbrev pub outcome_of : Output → ℕ → List Event → Outcome
-outcome_of output n run =
+abbrev pub outcome_of_run : Output → ℕ → List Event → RunOutcome
+outcome_of_run output n run =
     record {
-      ending = ending_told (ending_of run);
-      printed = map (λ rank. (rank, output n rank (replies_in (view_of run rank)))) (ranks_told n (ending_of run));
+      ending = reported_ending (ending_of run);
+      printed = map (λ rank. (rank, output n rank (replies_in (view_of run rank)))) (reported_ranks n (ending_of run));
     }
 
 -- a receive that a rank posts right after a probe which asked for the same takes the message that the probe found
@@ -59,14 +56,14 @@ IsProbeKept before event =
     (earlier : View) (comm : ℕ) (source : Source) (tag : Tag) (wait : Bool) (room sender start sent count : ℕ)
     → view_of before event.rank ≡ earlier ++ (Peek comm source tag wait, Peeked sender start sent count) ∷ []
     → event.call ≡ Post comm source tag room → event.reply ≡ Done
-    → mate_in before event.mate ≡ Some (sender, start)
+    → mate_name before event.mate ≡ Some (sender, start)
 
 -- each such receive of a run does
 abbrev pub KeepsProbes : List Event → Type 0
 KeepsProbes run = Along IsProbeKept [] run
 
 -- a run in which each rank has ended, with a recording machine's numbers
-pub record IsWhole (next : Next) (n : ℕ) (events : List Event) : Type 0 where
+pub record IsWholeRun (next : Next) (n : ℕ) (events : List Event) : Type 0 where
   pub run : IsRun next n events
   pub ended : (rank : ℕ) → rank < n → call_after next n events rank ≡ None
   pub numbered : AreNumberedInOrder n events
@@ -100,9 +97,9 @@ abbrev pub last_replies : Next → ℕ → List Event → Halt → ℕ → List 
 last_replies next n before halt rank = replies_and (replies_in (view_of before rank)) halt (call_after next n before rank)
 
 -- what a run comes to that goes so far, and then is halted
-abbrev pub halted_outcome : Next → Output → ℕ → List Event → Halt → Outcome
+abbrev pub halted_outcome : Next → Output → ℕ → List Event → Halt → RunOutcome
 halted_outcome next output n before halt =
     record {
-      ending = ending_told (Halted halt);
-      printed = map (λ rank. (rank, output n rank (last_replies next n before halt rank))) (ranks_told n (Halted halt));
+      ending = reported_ending (Halted halt);
+      printed = map (λ rank. (rank, output n rank (last_replies next n before halt rank))) (reported_ranks n (Halted halt));
     }

@@ -7,23 +7,24 @@ use Rattle.mpi_call.specs.Lists.{IsIn}
 use Rattle.run_model.specs.declared.event.Event.{Event}
 use Rattle.run_model.specs.Allowed.{can_go, flags_of}
 use Rattle.run_model.specs.Chosen.{got_of, order_of}
-use Rattle.run_model.specs.Due.{due, halt_in, halted}
+use Rattle.run_model.specs.Due.{due, halt_of_reply, halted}
 use Rattle.run_model.specs.Lists.{Along}
 use Rattle.run_model.specs.Run.{IsRun}
 use Rattle.run_model.specs.Serial.{call_after}
-use Rattle.run_model.specs.Views.{Next, view_of}
+use Rattle.run_model.specs.Views.{Next, moment_at, view_of}
 use Rattle.picked_runs.specs.declared.turn.Pick.{Pick}
 use Rattle.picked_runs.specs.Picks.{has_pick, picked_event}
 use Rattle.picked_runs.specs.Numbering.{AreNumberedInOrder}
+use Rattle.srr_entry.specs.Outputs.{Output}
 use Rattle.run_states.specs.Futures.{SameEvent, SameFuture}
-use Rattle.run_states.specs.Outcomes.{IsPatientEvent, IsProbeKept, IsWhole, Outcome, Output, halted_outcome, outcome_of}
-use Rattle.run_states.specs.Moves.{AreClosed, IsHalting, IsMet, IsMove, IsSettled}
+use Rattle.run_states.specs.Outcomes.{IsPatientEvent, IsProbeKept, IsWholeRun, RunOutcome, halted_outcome, outcome_of_run}
+use Rattle.run_states.specs.Moves.{AreClosed, IsHalting, IsVisited, IsMove, IsPickSettled}
 
 -- after two histories the same halt is due, the same starts are ready and give the same, the same calls can go, and the same can be picked
 pub record AnswerAlike (n : ℕ) (one other : List Event) : Type 0 where
   pub due : (me : ℕ) (call : Call) → due n one me (view_of one me) call ≡ due n other me (view_of other me) call
-  pub flags : (me : ℕ) (starts : List ℕ) → flags_of n one me (view_of one me) starts ≡ flags_of n other me (view_of other me) starts
-  pub gots : (me k : ℕ) (start : Option Call) → got_of n one me (view_of one me) k start ≡ got_of n other me (view_of other me) k start
+  pub flags : (me : ℕ) (starts : List ℕ) → flags_of (moment_at n one me) starts ≡ flags_of (moment_at n other me) starts
+  pub gots : (me k : ℕ) (start : Option Call) → got_of (moment_at n one me) k start ≡ got_of (moment_at n other me) k start
   pub goes : (me : ℕ) (call : Call) → can_go n one me (view_of one me) call ≡ can_go n other me (view_of other me) call
   pub offered : (me : ℕ) (call : Call) (pick : Pick) → has_pick n one me call pick ≡ has_pick n other me call pick
 
@@ -41,7 +42,7 @@ pub record GoOnAlike (n : ℕ) (one other : List Event) (me : ℕ) (call : Call)
 abbrev pub FuturesGoOnAlike : Next → ℕ → Type 0
 FuturesGoOnAlike next n =
     (one other : List Event) (me : ℕ) (call : Call) (pick : Pick) → IsRun next n one → IsRun next n other → SameFuture n one other
-    → has_pick n one me call pick ≡ true → IsSettled n one me call pick → GoOnAlike n one other me call pick
+    → has_pick n one me call pick ≡ true → IsPickSettled n one me call pick → GoOnAlike n one other me call pick
 
 -- a run that goes on from one history has its like, which goes on from the other: by the same ranks in the same order; it leaves the same,
 -- comes to the same, and keeps its probes if the first does
@@ -51,7 +52,7 @@ pub record HasLike (next : Next) (output : Output) (n : ℕ) (one other more : L
   pub numbered : AreNumberedInOrder n (other ++ rest)
   pub order : order_of rest ≡ order_of more
   pub future : SameFuture n (one ++ more) (other ++ rest)
-  pub outcome : outcome_of output n (one ++ more) ≡ outcome_of output n (other ++ rest)
+  pub outcome : outcome_of_run output n (one ++ more) ≡ outcome_of_run output n (other ++ rest)
   pub probes : Along IsProbeKept one more → Along IsProbeKept other rest
 
 -- of runs that leave the same
@@ -61,17 +62,17 @@ FuturesAreSame next output n =
     → SameFuture n one other → HasLike next output n one other more
 
 -- a step after a history is a move, or a call that is answered by a halt
-pub record IsMade (next : Next) (n : ℕ) (before : List Event) (event : Event) : Type 0 where
+pub record IsMadeStep (next : Next) (n : ℕ) (before : List Event) (event : Event) : Type 0 where
   pub pick : Pick
   pub made : event ≡ picked_event n before event.rank event.call pick
-  pub moves : halt_in event.reply ≡ None → IsMove next n before event.rank event.call pick
-  pub halts : (halt : Halt) → event.reply ≡ Stopped halt → IsHalting next n before event.rank event.call pick halt
+  pub moves : halt_of_reply event.reply ≡ None → IsMove next n before event.rank event.call pick
+  pub halts : (halt : Halt) → event.reply ≡ Stopped halt → IsHalting next (moment_at n before event.rank) event.call pick halt
 
 -- each step of a run is, so what can come of a history comes of what its moves and its halts make
 abbrev pub EveryStepIsMade : Next → ℕ → Type 0
 EveryStepIsMade next n =
     (before after : List Event) (event : Event) → IsRun next n (before ++ event ∷ after) → AreNumberedInOrder n (before ++ event ∷ after)
-    → IsMade next n before event
+    → IsMadeStep next n before event
 
 -- histories that are closed under the moves that keep probes have met each run from the first of them on that keeps them, up to its first
 -- halt. The first may be the empty one
@@ -79,7 +80,7 @@ abbrev pub EveryRunIsMet : Next → ℕ → Type 0
 EveryRunIsMet next n =
     (root more : List Event) (visited : List (List Event)) → AreClosed next n root IsProbeKept visited
     → IsRun next n (root ++ more) → AreNumberedInOrder n (root ++ more) → Along IsProbeKept root more → halted (root ++ more) ≡ None
-    → IsMet n visited (root ++ more)
+    → IsVisited n visited (root ++ more)
 
 -- a step that keeps probes and is patient
 abbrev pub IsPatientStep : ℕ → List Event → Event → Type 0
@@ -90,7 +91,7 @@ abbrev pub EveryPatientRunIsMet : Next → ℕ → Type 0
 EveryPatientRunIsMet next n =
     (most : ℕ) (root more : List Event) (visited : List (List Event)) → AreClosed next n root (IsPatientStep most) visited
     → IsRun next n (root ++ more) → AreNumberedInOrder n (root ++ more) → Along (IsPatientStep most) root more → halted (root ++ more) ≡ None
-    → IsMet n visited (root ++ more)
+    → IsVisited n visited (root ++ more)
 
 -- a run that has ended, and was first halted after these events, comes to what they and the halt decide
 abbrev pub HaltsDecideOutcomes : Next → Output → ℕ → Type 0
@@ -98,36 +99,36 @@ HaltsDecideOutcomes next output n =
     (before after : List Event) (event : Event) (halt : Halt) → IsRun next n (before ++ event ∷ after)
     → ((rank : ℕ) → rank < n → call_after next n (before ++ event ∷ after) rank ≡ None)
     → halted before ≡ None → event.reply ≡ Stopped halt
-    → outcome_of output n (before ++ event ∷ after) ≡ halted_outcome next output n before halt
+    → outcome_of_run output n (before ++ event ∷ after) ≡ halted_outcome next output n before halt
 
 -- a history after which each rank has ended comes to this
-pub record EndsWith (next : Next) (output : Output) (n : ℕ) (events : List Event) (outcome : Outcome) : Type 0 where
+pub record EndsInOutcome (next : Next) (output : Output) (n : ℕ) (events : List Event) (outcome : RunOutcome) : Type 0 where
   pub ended : (rank : ℕ) → rank < n → call_after next n events rank ≡ None
-  pub outcome_is : outcome ≡ outcome_of output n events
+  pub outcome_is : outcome ≡ outcome_of_run output n events
 
 -- a history after which a call is answered by a halt comes to this
-pub record HaltsWith (next : Next) (output : Output) (n : ℕ) (events : List Event) (outcome : Outcome) : Type 0 where
+pub record HaltsWith (next : Next) (output : Output) (n : ℕ) (events : List Event) (outcome : RunOutcome) : Type 0 where
   pub rank : ℕ
   pub call : Call
   pub pick : Pick
   pub halt : Halt
-  pub halting : IsHalting next n events rank call pick halt
+  pub halting : IsHalting next (moment_at n events rank) call pick halt
   pub outcome_is : outcome ≡ halted_outcome next output n events halt
 
 -- one of these histories comes to this
-abbrev pub IsOutcomeMet : Next → Output → ℕ → List (List Event) → Outcome → Type 0
+abbrev pub IsOutcomeMet : Next → Output → ℕ → List (List Event) → RunOutcome → Type 0
 IsOutcomeMet next output n visited outcome =
-    (one : List Event) × IsIn one visited × (EndsWith next output n one outcome ⊎ HaltsWith next output n one outcome)
+    (one : List Event) × IsIn one visited × (EndsInOutcome next output n one outcome ⊎ HaltsWith next output n one outcome)
 
 -- histories that are closed under the moves that keep probes come to what each whole run from the first of them on comes to
 abbrev pub EveryOutcomeIsMet : Next → Output → ℕ → Type 0
 EveryOutcomeIsMet next output n =
     (root more : List Event) (visited : List (List Event)) → AreClosed next n root IsProbeKept visited
-    → IsWhole next n (root ++ more) → halted root ≡ None → IsOutcomeMet next output n visited (outcome_of output n (root ++ more))
+    → IsWholeRun next n (root ++ more) → halted root ≡ None → IsOutcomeMet next output n visited (outcome_of_run output n (root ++ more))
 
 -- those that are closed under the patient ones of these moves come to what each does that is patient from there on
 abbrev pub EveryPatientOutcomeIsMet : Next → Output → ℕ → Type 0
 EveryPatientOutcomeIsMet next output n =
     (most : ℕ) (root more : List Event) (visited : List (List Event)) → AreClosed next n root (IsPatientStep most) visited
-    → IsWhole next n (root ++ more) → Along (IsPatientEvent most) root more → halted root ≡ None
-    → IsOutcomeMet next output n visited (outcome_of output n (root ++ more))
+    → IsWholeRun next n (root ++ more) → Along (IsPatientEvent most) root more → halted root ≡ None
+    → IsOutcomeMet next output n visited (outcome_of_run output n (root ++ more))

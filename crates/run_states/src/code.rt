@@ -10,16 +10,16 @@ use std::alloc::{AllocError, Global};
 
 /// The numbers of a code, in order.
 #[derive(Drop, PartialEq, Eq, Hash)]
-pub struct Code {
+pub struct StateCode {
     pub numbers: Vec<i64>,
 }
 
-impl Code {
+impl StateCode {
     /// No numbers.
     pub fn new(alloc: Global) -> Self
         ensures { result.numbers.items ≡ [] }
     {
-        Code {
+        StateCode {
             numbers: Vec::new(alloc),
         }
     }
@@ -53,7 +53,7 @@ impl Code {
 }
 
 /// Adds how many ints there are, and these.
-pub fn add_ints(code: &mut Code, ints: &[i32]) -> Result<(), AllocError>
+pub fn add_ints(code: &mut StateCode, ints: &[i32]) -> Result<(), AllocError>
     ensures { OnOk result (code.new.numbers.items ≡ code.old.numbers.items ++ code_of_ints ints.now) }
 {
     code.push_len(ints.len())?;
@@ -66,7 +66,7 @@ pub fn add_ints(code: &mut Code, ints: &[i32]) -> Result<(), AllocError>
 }
 
 /// Adds how many members there are, and these.
-pub fn add_members(code: &mut Code, members: &[u8]) -> Result<(), AllocError>
+pub fn add_members(code: &mut StateCode, members: &[u8]) -> Result<(), AllocError>
     ensures { OnOk result (code.new.numbers.items ≡ code.old.numbers.items ++ code_of_numbers members.now) }
 {
     code.push_len(members.len())?;
@@ -96,14 +96,14 @@ fn fault_number(fault: Fault) -> u32
     }
 }
 
-fn push_two(code: &mut Code, kind: u32, first: u32) -> Result<(), AllocError>
+fn push_two(code: &mut StateCode, kind: u32, first: u32) -> Result<(), AllocError>
     ensures { OnOk result (code.new.numbers.items ≡ code.old.numbers.items ++ pos kind ∷ pos first ∷ []) }
 {
     code.push(kind)?;
     code.push(first)
 }
 
-fn push_three(code: &mut Code, kind: u32, first: u32, second: u32) -> Result<(), AllocError>
+fn push_three(code: &mut StateCode, kind: u32, first: u32, second: u32) -> Result<(), AllocError>
     ensures { OnOk result (code.new.numbers.items ≡ code.old.numbers.items ++ pos kind ∷ pos first ∷ pos second ∷ []) }
 {
     push_two(code, kind, first)?;
@@ -111,7 +111,7 @@ fn push_three(code: &mut Code, kind: u32, first: u32, second: u32) -> Result<(),
 }
 
 fn push_four(
-    code: &mut Code,
+    code: &mut StateCode,
     kind: u32,
     first: u32,
     second: u32,
@@ -124,7 +124,7 @@ fn push_four(
 }
 
 /// Adds a halt.
-pub fn add_halt(code: &mut Code, halt: &Halt) -> Result<(), AllocError>
+pub fn add_halt(code: &mut StateCode, halt: &Halt) -> Result<(), AllocError>
     ensures { OnOk result (code.new.numbers.items ≡ code.old.numbers.items ++ code_of_halt halt.now) }
 {
     match halt {
@@ -142,7 +142,7 @@ pub fn add_halt(code: &mut Code, halt: &Halt) -> Result<(), AllocError>
 }
 
 /// Adds what a completed start gave.
-pub fn add_mark(code: &mut Code, mark: &Mark) -> Result<(), AllocError>
+pub fn add_mark(code: &mut StateCode, mark: &Mark) -> Result<(), AllocError>
     ensures { OnOk result (code.new.numbers.items ≡ code.old.numbers.items ++ code_of_mark mark.now) }
 {
     match mark {
@@ -172,7 +172,7 @@ pub fn add_mark(code: &mut Code, mark: &Mark) -> Result<(), AllocError>
 }
 
 /// Adds a completed start.
-fn add_item(code: &mut Code, item: &Marked) -> Result<(), AllocError>
+fn add_item(code: &mut StateCode, item: &Marked) -> Result<(), AllocError>
     ensures { OnOk result (code.new.numbers.items ≡ code.old.numbers.items ++ pos item.now.index ∷ code_of_mark item.now.mark) }
 {
     code.push(item.index)?;
@@ -180,7 +180,7 @@ fn add_item(code: &mut Code, item: &Marked) -> Result<(), AllocError>
 }
 
 /// Adds how many starts were completed, and these.
-pub fn add_items(code: &mut Code, items: &[Marked]) -> Result<(), AllocError>
+pub fn add_items(code: &mut StateCode, items: &[Marked]) -> Result<(), AllocError>
     ensures { OnOk result (code.new.numbers.items ≡ code.old.numbers.items ++ code_of_items items.now) }
 {
     code.push_len(items.len())?;
@@ -193,7 +193,7 @@ pub fn add_items(code: &mut Code, items: &[Marked]) -> Result<(), AllocError>
 }
 
 /// Adds an entry.
-pub fn add_entry(code: &mut Code, entry: &Entry) -> Result<(), AllocError>
+pub fn add_entry(code: &mut StateCode, entry: &Entry) -> Result<(), AllocError>
     ensures { OnOk result (code.new.numbers.items ≡ code.old.numbers.items ++ code_of_entry entry.now) }
 {
     match entry {
@@ -224,7 +224,7 @@ pub fn add_entry(code: &mut Code, entry: &Entry) -> Result<(), AllocError>
 }
 
 /// Adds how many entries a rank has, and these.
-pub fn add_entries(code: &mut Code, entries: &[Entry]) -> Result<(), AllocError>
+pub fn add_entries(code: &mut StateCode, entries: &[Entry]) -> Result<(), AllocError>
     ensures { OnOk result (code.new.numbers.items ≡ code.old.numbers.items ++ code_of_entries entries.now) }
 {
     code.push_len(entries.len())?;
@@ -237,7 +237,7 @@ pub fn add_entries(code: &mut Code, entries: &[Entry]) -> Result<(), AllocError>
 }
 
 /// Adds the entries of each rank.
-pub fn add_lists(code: &mut Code, lists: &[Entries]) -> Result<(), AllocError>
+pub fn add_lists(code: &mut StateCode, lists: &[Entries]) -> Result<(), AllocError>
     ensures { OnOk result (code.new.numbers.items ≡ code.old.numbers.items ++ code_of_lists lists.now) }
 {
     code.push_len(lists.len())?;

@@ -1,10 +1,10 @@
 //! What a search looks a run up by.
 ghost use Rattle.std.specs.Prelude.{◌≡◌, IfOk};
 ghost use Rattle.run_model.specs.Run.{IsRun};
-ghost use Rattle.run_states.specs.Codes.{code_of};
-ghost use Rattle.run_states.specs.Keys.{key_of};
+ghost use Rattle.run_states.specs.Codes.{key_code};
+ghost use Rattle.run_states.specs.Keys.{state_key};
 
-use crate::code::{Code, add_lists};
+use crate::code::{StateCode, add_lists};
 use crate::origins::{add_origins, origins_of};
 use crate::pairs::{add_partners, pairs_of};
 use run_model::by_rank::ByRank;
@@ -20,14 +20,14 @@ pub fn code_of_run<P: Program>(
     program: &P,
     n: u8,
     history: &History,
-) -> Result<Code, AllocError>
+) -> Result<StateCode, AllocError>
     requires { IsRun (P.next program.now) n history.now.events }
-    ensures { IfOk result (λ code. code.numbers.items ≡ code_of (key_of n history.now.events)) }
+    ensures { IfOk result (λ code. code.numbers.items ≡ key_code (state_key n history.now.events)) }
 {
     let all = all_ranks(alloc, n)?;
     let by_rank = ByRank::new(alloc, history)?;
     let log = log_of(alloc, n, &all, &[], &by_rank)?;
-    let mut code = Code::new(alloc);
+    let mut code = StateCode::new(alloc);
     add_lists(&mut code, log.lists.as_slice())?;
     let events = history.as_slice();
     let pairs = pairs_of(alloc, events)?;

@@ -1,14 +1,14 @@
 //! The communicators that a history made.
 ghost use Rattle.std.specs.Prelude.{◌≡◌, ◌++◌, ◌∷◌, [], ℕ, IfOk, None, OnOk, option_map, slice_get};
 ghost use Rattle.mpi_call.specs.Calls.{ints_of};
-ghost use Rattle.run_model.specs.Communicators.{count_on, known_after, members_in};
+ghost use Rattle.run_model.specs.Communicators.{count_on, known_after, members_for_rank};
 ghost use Rattle.run_model.specs.Lists.{world};
 ghost use Rattle.run_model.specs.Numbers.{communicators_of, entered_by_all, made_at};
 ghost use Rattle.run_model.specs.Views.{starts_of, view_of};
 ghost use Rattle.run_states.specs.Codes.{code_of_made, code_of_origin};
-ghost use Rattle.run_states.specs.Origins.{colour_origins, enters_on, if_entered, is_enter_of, made_by};
+ghost use Rattle.run_states.specs.inside.Origins.{colour_origins, enter_calls_on, if_entered, is_enter_of, origins_made};
 
-use crate::code::{Code, add_ints};
+use crate::code::{StateCode, add_ints};
 use comms::colours::colours_of;
 use mpi_call::call::{Call, Comm, Kind};
 use mpi_call::lists::{Inputs, Ints, Ranks};
@@ -65,7 +65,7 @@ fn count_enters(events: &[Event], rank: u8, comm: Comm) -> usize
 
 /// A rank's Enter of an instance of a communicator.
 fn entered(events: &[Event], rank: u8, comm: Comm, instance: usize) -> Option<&Call>
-    ensures { option_map (λ call. call.now) result ≡ slice_get (enters_on comm (view_of events.now rank)) instance }
+    ensures { option_map (λ call. call.now) result ≡ slice_get (enter_calls_on comm (view_of events.now rank)) instance }
 {
     let mut left = instance;
     let mut rest = events;
@@ -163,7 +163,7 @@ fn add_made(
     instance: usize,
     inputs: &Inputs,
 ) -> Result<(), AllocError>
-    ensures { OnOk result (origins.new.items ≡ origins.old.items ++ made_by kind comm instance inputs.now) }
+    ensures { OnOk result (origins.new.items ≡ origins.old.items ++ origins_made kind comm instance inputs.now) }
 {
     match kind {
         Kind::Split => {
@@ -184,7 +184,7 @@ fn add_made(
 
 /// The members of a communicator for a rank; `all` are all ranks.
 fn members_of<'a>(all: &'a Ranks, before: &'a [Event], rank: u8, comm: Comm) -> &'a [u8]
-    ensures { (n : ℕ) → all.now ≡ world n 0 → result.now ≡ members_in n (view_of before.now rank) comm }
+    ensures { (n : ℕ) → all.now ≡ world n 0 → result.now ≡ members_for_rank n (view_of before.now rank) comm }
 {
     if comm == 0 {
         return all.as_slice();
@@ -244,7 +244,7 @@ pub fn origins_of(alloc: Global, n: u8, events: &[Event]) -> Result<Vec<Origin>,
 }
 
 /// Adds where a communicator comes from.
-fn add_origin(code: &mut Code, origin: &Origin) -> Result<(), AllocError>
+fn add_origin(code: &mut StateCode, origin: &Origin) -> Result<(), AllocError>
     ensures { OnOk result (code.new.numbers.items ≡ code.old.numbers.items ++ code_of_origin origin.now) }
 {
     code.push(origin.comm)?;
@@ -253,7 +253,7 @@ fn add_origin(code: &mut Code, origin: &Origin) -> Result<(), AllocError>
 }
 
 /// Adds how many communicators there are, and where each comes from.
-pub fn add_origins(code: &mut Code, origins: &[Origin]) -> Result<(), AllocError>
+pub fn add_origins(code: &mut StateCode, origins: &[Origin]) -> Result<(), AllocError>
     ensures { OnOk result (code.new.numbers.items ≡ code.old.numbers.items ++ code_of_made origins.now) }
 {
     code.push_len(origins.len())?;

@@ -5,14 +5,14 @@ ghost use Rattle.run_model.specs.Pairs.{pair_of, pairs_of, partner_of};
 ghost use Rattle.run_states.specs.Codes.{code_of_partner, code_of_partners, codes_of};
 ghost use Rattle.run_states.specs.Keys.{partners_in};
 
-use crate::code::Code;
-use crate::starts::{Name, mate_in, starts_in};
+use crate::code::StateCode;
+use crate::starts::{RankAndNumber, mate_in, starts_in};
 use run_model::event::Event;
 use std::alloc::{AllocError, Global};
 
 /// Adds the pair that an event makes, if it makes one.
 fn add_pair(
-    pairs: &mut Vec<(Name, Name)>,
+    pairs: &mut Vec<(RankAndNumber, RankAndNumber)>,
     before: &[Event],
     event: &Event,
 ) -> Result<(), AllocError>
@@ -27,7 +27,10 @@ fn add_pair(
 }
 
 /// The pairs of these events, in the order in which they were made.
-pub fn pairs_of(alloc: Global, events: &[Event]) -> Result<Vec<(Name, Name)>, AllocError>
+pub fn pairs_of(
+    alloc: Global,
+    events: &[Event],
+) -> Result<Vec<(RankAndNumber, RankAndNumber)>, AllocError>
     ensures { IfOk result (λ pairs. pairs.items ≡ pairs_of events.now) }
 {
     let mut pairs = Vec::new(alloc);
@@ -38,7 +41,10 @@ pub fn pairs_of(alloc: Global, events: &[Event]) -> Result<Vec<(Name, Name)>, Al
 }
 
 /// The other start of the pair that a start is in.
-fn partner_of(pairs: &[(Name, Name)], name: Name) -> Option<Name>
+fn partner_of(
+    pairs: &[(RankAndNumber, RankAndNumber)],
+    name: RankAndNumber,
+) -> Option<RankAndNumber>
     ensures { result ≡ partner_of pairs.now name }
 {
     let mut rest = pairs;
@@ -55,7 +61,7 @@ fn partner_of(pairs: &[(Name, Name)], name: Name) -> Option<Name>
 }
 
 /// Adds a partner, if there is one.
-fn add_partner(code: &mut Code, partner: Option<Name>) -> Result<(), AllocError>
+fn add_partner(code: &mut StateCode, partner: Option<RankAndNumber>) -> Result<(), AllocError>
     ensures { OnOk result (code.new.numbers.items ≡ code.old.numbers.items ++ code_of_partner partner) }
 {
     match partner {
@@ -70,8 +76,8 @@ fn add_partner(code: &mut Code, partner: Option<Name>) -> Result<(), AllocError>
 
 /// Adds the partners of the starts of a rank, of which there are so many.
 fn add_rank(
-    code: &mut Code,
-    pairs: &[(Name, Name)],
+    code: &mut StateCode,
+    pairs: &[(RankAndNumber, RankAndNumber)],
     rank: u8,
     count: usize,
 ) -> Result<(), AllocError>
@@ -85,9 +91,9 @@ fn add_rank(
 
 /// Adds the partners of each start of each of n ranks.
 pub fn add_partners(
-    code: &mut Code,
+    code: &mut StateCode,
     events: &[Event],
-    pairs: &[(Name, Name)],
+    pairs: &[(RankAndNumber, RankAndNumber)],
     n: u8,
 ) -> Result<(), AllocError>
     requires { pairs.now ≡ pairs_of events.now }

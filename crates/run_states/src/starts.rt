@@ -2,13 +2,13 @@
 ghost use Rattle.std.specs.Prelude.{◌≡◌, ◌∷◌, [], length, slice_get, take};
 ghost use Rattle.run_model.specs.Pairs.{name_at};
 ghost use Rattle.run_model.specs.Views.{starts_of, view_of};
-ghost use Rattle.run_states.specs.Futures.{mate_in};
+ghost use Rattle.run_states.specs.Futures.{mate_name};
 
 use run_model::event::Event;
 use run_model::starts::is_start;
 
 /// A start: its rank, and its number there.
-pub type Name = (u8, usize);
+pub type RankAndNumber = (u8, usize);
 
 /// 1 for a start of a rank.
 fn count_start(event: &Event, rank: u8) -> usize
@@ -35,7 +35,7 @@ pub fn starts_in(events: &[Event], rank: u8) -> usize
 }
 
 /// The name of the start at a position.
-pub fn name_at(events: &[Event], at: usize) -> Option<Name>
+pub fn name_at(events: &[Event], at: usize) -> Option<RankAndNumber>
     ensures { result ≡ name_at events.now at }
 {
     match events.get(at) {
@@ -51,8 +51,8 @@ pub fn name_at(events: &[Event], at: usize) -> Option<Name>
 }
 
 /// The start that a mate names.
-pub fn mate_in(before: &[Event], mate: Option<u32>) -> Option<Name>
-    ensures { result ≡ mate_in before.now mate }
+pub fn mate_in(before: &[Event], mate: Option<u32>) -> Option<RankAndNumber>
+    ensures { result ≡ mate_name before.now mate }
 {
     match mate {
         Some(at) => name_at(before, at as usize),

@@ -1,7 +1,7 @@
 -- Texts with commas between them.
 use Rattle.std.proofs.Common.{◌≡◌, ◌++◌, ◌∷◌, ℕ, List, [], ap, flat_map, map, refl}
 use Rattle.std.specs.Prelude.{codes}
-use Rattle.srr_text.specs.EntryText.{by_commas, each_after}
+use Rattle.srr_log.specs.EntryText.{by_commas, each_after}
 use Rattle.run_text.specs.CallTexts.{joined}
 
 each_commas : {X : Type 0} (text : X → List ℕ) (xs : List X) → each_after 44 (map text xs) ≡ flat_map (λ y. codes "," ++ text y) xs

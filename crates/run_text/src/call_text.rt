@@ -3,11 +3,11 @@ ghost use Rattle.std.specs.Prelude.{◌≡◌, ◌++◌, OnOk, codes, true};
 ghost use Rattle.mpi_call.specs.Calls.{is_enter};
 ghost use Rattle.mpi_call.specs.declared.call.Call.TheVariants.{Peek, Post, Send, Take};
 ghost use Rattle.wiz_base.specs.Decimals.{number_text};
-ghost use Rattle.run_text.specs.CallTexts.{aborter_text, at_start_text, call_text, envelope_text, fault_text, got_text, halt_text, item_text, joined, kind_text, mode_text, name_text, op_text, probe_text, reply_text, root_text, send_text, source_text, tag_text};
+ghost use Rattle.run_text.specs.CallTexts.{aborter_text, at_start_text, call_text, envelope_text, fault_text, got_text, halt_text, taken_item_text, joined, kind_text, mode_text, name_text, op_text, probe_text, reply_text, root_text, send_text, source_text, tag_text};
 
 use mpi_call::call::{Call, Fault, Halt, Kind, Op, Source, Tag, TakeMode};
 use mpi_call::reply::{Got, Item, Reply};
-use srr_text::spelled::{Spelled, push_by_commas};
+use srr_log::spelled::{Spelled, push_by_commas};
 use std::alloc::AllocError;
 use wiz_base::{Bytes, push_decimal, push_number, push_text};
 
@@ -376,7 +376,7 @@ fn push_got(out: &mut Bytes, got: &Got) -> Result<(), AllocError>
 }
 
 fn push_item(out: &mut Bytes, item: &Item) -> Result<(), AllocError>
-    ensures { OnOk result (out.new ≡ out.old ++ item_text item.now) }
+    ensures { OnOk result (out.new ≡ out.old ++ taken_item_text item.now) }
 {
     push_decimal(out, item.index as u64)?;
     push_text(out, b"=")?;
@@ -385,7 +385,7 @@ fn push_item(out: &mut Bytes, item: &Item) -> Result<(), AllocError>
 
 /// Completed starts with semicolons between them.
 fn push_items(out: &mut Bytes, items: &[Item]) -> Result<(), AllocError>
-    ensures { OnOk result (out.new ≡ out.old ++ joined (codes "; ") item_text items.now) }
+    ensures { OnOk result (out.new ≡ out.old ++ joined (codes "; ") taken_item_text items.now) }
 {
     let [first, others @ ..] = items else {
         return Ok(());

@@ -6,7 +6,6 @@ use Rattle.std.proofs.lemmas.Bool.{eqb-true}
 use Rattle.std.proofs.lemmas.List.Elements.{All-from_recursion, recursion_from_All}
 use mir.Syntax.{w32}
 use Rattle.mpi_call.specs.declared.call.Fault.{Fault}
-use Rattle.mpi_call.specs.declared.call.Fault.TheVariants.{DivideByZero, OutOfBounds, BadRank, BadTag, BadCount, BadComm, Budget, OutputFull, Depth, Cells}
 use Rattle.mpi_call.specs.declared.call.Halt.{Halt}
 use Rattle.mpi_call.specs.declared.call.Halt.TheVariants.{Aborted, Trapped, Truncated, Mismatched, BadRequest, Limit, Stuck}
 use Rattle.mpi_call.specs.Halts.{fault_number}
@@ -15,11 +14,13 @@ use Rattle.srr_entry.specs.declared.entry.Entry.{Entry}
 use Rattle.srr_entry.specs.declared.entry.Entry.TheVariants.{Sent, Posted, Entered, Ended, Took, NotYet, PeekedInside, PeekedOutside, Stopped}
 use Rattle.wiz_base.specs.Decimals.{decimal_text, number_text}
 use Rattle.wiz_base.proofs.DecimalLaws.{decimal_text-excludes, decimal_text-digit}
-use Rattle.srr_text.specs.EntryText.{each_after, name_text, mark_text, item_text, halt_number, halt_details, entry_line}
+use Rattle.srr_log.specs.EntryText.{each_after, name_text, mark_text, item_text, halt_number, halt_details, entry_line}
 use Rattle.mpi_call.specs.Lists.{Rises, rises}
-use Rattle.srr_text.specs.Bounds.{IsSmallNumber, IsSender, IsTag, IsMark, IsHalt, IsEntry}
-use Rattle.srr_log.specs.Pieces.{◌>>=◌, behind, split_once, number_in, int_in, rank_in}
-use Rattle.srr_log.specs.EntryReading.{indices, inside_in, outside_in, mark_in, item_in, all_items_in, items_in, peek_split, peek_in, fault_of, detail_in, detailed_in, named_in, halt_in, long_entry, long_entry_in, entry_in}
+use Rattle.srr_log.specs.Bounds.{IsSmallNumber, IsSender, IsTag, IsMark, IsHalt, IsEntry}
+use Rattle.srr_log.specs.FaultNumbers.{fault_numbered}
+use Rattle.srr_log.specs.inside.Pieces.{◌>>=◌, after_word, split_once, number_in, int_in, rank_in}
+use Rattle.srr_log.specs.inside.EntryReading.{indices, inside_in, outside_in, mark_in, item_in, all_items_in, items_in, peek_split, peek_in, detail_in, detailed_in, named_in, halt_in, long_entry, long_entry_in, entry_in}
+use Rattle.srr_log.proofs.FaultNumbers.{fault_read, fault_said}
 use Rattle.srr_log.proofs.PieceLaws.{some, bind_some, guard_some, same_word, behind_some, split_once_at, split_once_some, number_read, number_said, int_read, int_said, rank_read, rank_said}
 use Rattle.srr_log.proofs.NoByteLaws.{no_byte_decimal, no_byte_item}
 use Rattle.srr_log.proofs.MarkLaws.{listed_read, listed_said, rises_rise, rise_rises, inside_read, inside_said, tagged_text, outside_read, outside_said, short_name, long_name, mark_read, mark_said, pick, branch}
@@ -102,57 +103,6 @@ peek_said : (n : ℕ) (group text : List ℕ) (entry : Entry) → peek_in n grou
 unfolding peek_in
 peek_said n group text entry e = peek_said_cut n group text (split_once 58 text) entry refl e
 
--- faults
-fault_read : (fault : Fault) → (fault_number fault ≤ 10) × (fault_of (fault_number fault) ≡ some fault)
-unfolding fault_of
-fault_read DivideByZero = (omega arith, refl)
-fault_read OutOfBounds = (omega arith, refl)
-fault_read BadRank = (omega arith, refl)
-fault_read BadTag = (omega arith, refl)
-fault_read BadCount = (omega arith, refl)
-fault_read BadComm = (omega arith, refl)
-fault_read Budget = (omega arith, refl)
-fault_read OutputFull = (omega arith, refl)
-fault_read Depth = (omega arith, refl)
-fault_read Cells = (omega arith, refl)
-
-numbered : (number k : ℕ) (fault found : Fault) → fault_number fault ≡ k → (number == k) ≡ true → fault ≡ found → number ≡ fault_number found
-numbered number k fault found is same found_is = eqb-true number k same ∙ sym is ∙ ap fault_number found_is
-
-fault_said : (number : ℕ) (fault : Fault) → fault_of number ≡ some fault → number ≡ fault_number fault
-unfolding fault_of
-fault_said number fault e = elim (pick (number == 1) DivideByZero _ fault e) [
-  | inl (same, is) ↦ numbered number 1 DivideByZero fault refl same is
-  | inr e₁ ↦ elim (pick (number == 2) OutOfBounds _ fault e₁) [
-    | inl (same, is) ↦ numbered number 2 OutOfBounds fault refl same is
-    | inr e₂ ↦ elim (pick (number == 3) BadRank _ fault e₂) [
-      | inl (same, is) ↦ numbered number 3 BadRank fault refl same is
-      | inr e₃ ↦ elim (pick (number == 4) BadTag _ fault e₃) [
-        | inl (same, is) ↦ numbered number 4 BadTag fault refl same is
-        | inr e₄ ↦ elim (pick (number == 5) BadCount _ fault e₄) [
-          | inl (same, is) ↦ numbered number 5 BadCount fault refl same is
-          | inr e₅ ↦ elim (pick (number == 6) BadComm _ fault e₅) [
-            | inl (same, is) ↦ numbered number 6 BadComm fault refl same is
-            | inr e₆ ↦ elim (pick (number == 7) Budget _ fault e₆) [
-              | inl (same, is) ↦ numbered number 7 Budget fault refl same is
-              | inr e₇ ↦ elim (pick (number == 8) OutputFull _ fault e₇) [
-                | inl (same, is) ↦ numbered number 8 OutputFull fault refl same is
-                | inr e₈ ↦ elim (pick (number == 9) Depth _ fault e₈) [
-                  | inl (same, is) ↦ numbered number 9 Depth fault refl same is
-                  | inr e₉ ↦ elim (pick (number == 10) Cells None fault e₉) [
-                    | inl (same, is) ↦ numbered number 10 Cells fault refl same is
-                    | inr none ↦ absurd (cc)
-                  ]
-                ]
-              ]
-            ]
-          ]
-        ]
-      ]
-    ]
-  ]
-]
-
 -- halts
 one_digit : (n : ℕ) (rest : List ℕ) → n < 10 → decimal_text n ++ rest ≡ (48 + n) ∷ rest
 one_digit n rest below = ap (λ xs. xs ++ rest) (decimal_text-digit n below)
@@ -214,8 +164,8 @@ detail_said n kind rank other halt below e = elim (branch (bytes_eq kind (codes 
       subst (IsHaltText n (halt_text kind rank other)) is ((below, said.0), ap (λ xs. halt_text xs rank other) (same_word kind (codes "1") same) ∙ ap (halt_text (codes "1") rank) said.1 ∙ sym (one_digit 1 (halt_details (Aborted rank a.0)) (omega arith)))
   | inr e₁ ↦ elim (branch (bytes_eq kind (codes "2")) _ _ (some halt) e₁) [
     | inl (same, e₂) ↦
-        let a = bind_some (number_in 10 other) (λ number. fault_of number >>= λ fault. some (Trapped rank fault)) halt e₂ in
-        let b = bind_some (fault_of a.0) (λ fault. some (Trapped rank fault)) halt a.2 in
+        let a = bind_some (number_in 10 other) (λ number. fault_numbered number >>= λ fault. some (Trapped rank fault)) halt e₂ in
+        let b = bind_some (fault_numbered a.0) (λ fault. some (Trapped rank fault)) halt a.2 in
         let said = number_said 10 other a.0 a.1 in
         let is : Trapped rank b.0 ≡ halt = let s = b.2 in cc in
         subst (IsHaltText n (halt_text kind rank other)) is (below, ap (λ xs. halt_text xs rank other) (same_word kind (codes "2") same) ∙ ap (halt_text (codes "2") rank) (said.1 ∙ ap decimal_text (fault_said a.0 b.0 b.1)) ∙ sym (one_digit 2 (halt_details (Trapped rank b.0)) (omega arith)))
@@ -280,7 +230,7 @@ letters_read n group = (refl, refl, refl, refl, refl)
 
 long_read : (n : ℕ) (group text : List ℕ) → (entry_in n group (116 ∷ 32 ∷ text) ≡ (items_in n group text >>= λ items. some (Took items)))
     × (entry_in n group (107 ∷ 32 ∷ text) ≡ peek_in n group text) × (entry_in n group (120 ∷ 32 ∷ text) ≡ (halt_in n text >>= λ halt. some (Stopped halt)))
-unfolding entry_in long_entry_in behind
+unfolding entry_in long_entry_in after_word
 long_read n group text = (refl, refl, refl)
 
 pub entry_read : (n : ℕ) (group : List ℕ) → n ≤ 256 → (entry : Entry) → IsEntry n group entry → entry_in n group (entry_line entry) ≡ some entry
@@ -298,7 +248,7 @@ entry_read n group few (PeekedOutside source start tag count) good =
 entry_read n group few (Stopped halt) good =
     (long_read n group (decimal_text (halt_number halt) ++ halt_details halt)).2 ∙ rw (halt_read n few halt good) refl
 
-long_said : (n : ℕ) (group line : List ℕ) (items peek halt : Option (List ℕ)) (entry : Entry) → behind (codes "t ") line ≡ items → behind (codes "k ") line ≡ peek → behind (codes "x ") line ≡ halt
+long_said : (n : ℕ) (group line : List ℕ) (items peek halt : Option (List ℕ)) (entry : Entry) → after_word (codes "t ") line ≡ items → after_word (codes "k ") line ≡ peek → after_word (codes "x ") line ≡ halt
     → long_entry n group items peek halt ≡ some entry → IsLineOf n group line entry
 long_said n group line (Some items) peek halt entry is is' is'' e =
     let a = bind_some (items_in n group items) (λ items. some (Took items)) entry e in
@@ -317,7 +267,7 @@ long_said n group line None None None entry is is' is'' e = absurd (cc)
 
 long_entry_said : (n : ℕ) (group line : List ℕ) (entry : Entry) → long_entry_in n group line ≡ some entry → IsLineOf n group line entry
 unfolding long_entry_in
-long_entry_said n group line entry e = long_said n group line (behind (codes "t ") line) (behind (codes "k ") line) (behind (codes "x ") line) entry refl refl refl e
+long_entry_said n group line entry e = long_said n group line (after_word (codes "t ") line) (after_word (codes "k ") line) (after_word (codes "x ") line) entry refl refl refl e
 
 pub entry_said : (n : ℕ) (group line : List ℕ) (entry : Entry) → entry_in n group line ≡ some entry → IsEntry n group entry × (line ≡ entry_line entry)
 unfolding entry_in

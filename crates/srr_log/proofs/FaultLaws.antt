@@ -8,21 +8,21 @@ use Rattle.wiz_base.specs.Lines.{HasNoNewline}
 use Rattle.srr_log.specs.declared.fault.LogFault.{LogFault}
 use Rattle.srr_log.specs.declared.fault.LogWhy.{LogWhy}
 use Rattle.srr_log.specs.declared.fault.LogWhy.TheVariants.{Short}
-use Rattle.srr_text.specs.LogText.{line, log_text, IsLogText}
-use Rattle.srr_text.specs.Bounds.{IsInBounds}
-use Rattle.srr_log.specs.Parts.{Part, head_line, ranks_line, group_line, size_line, program_bytes, rank_line, entry_part, end_line, part_line, part_text, parts_text, lists_parts, log_parts}
-use Rattle.srr_log.specs.Faults.{IsWhole, HasNoEnd, IsReason, IsShort, IsBad, IsExtra, IsFirstFault, no_memory}
-use Rattle.srr_log.specs.Reading.{State, at_head, at_ranks, at_group, at_size, at_program, at_list, at_entry, at_end, Allows, next, after, Runs, expected, IsOpen, FaultAt, FaultFrom, Reads}
+use Rattle.srr_log.specs.LogText.{log_text, IsLogText}
+use Rattle.srr_log.specs.Bounds.{IsInBounds}
+use Rattle.srr_log.specs.Parts.{LogPart, head_line, ranks_line, group_line, size_line, program_bytes, rank_line, entry_part, end_line, part_line, part_text, parts_text, lists_parts, log_parts, line}
+use Rattle.srr_log.specs.Faults.{IsWhole, HasNoEnd, IsReason, IsShort, IsBad, IsExtra, IsFirstPartFault, no_memory}
+use Rattle.srr_log.specs.inside.Reading.{ReadingState, at_head, at_ranks, at_group, at_size, at_program, at_list, at_entry, at_end, Allows, next, after, Runs, expected, IsOpen, FaultAt, FaultFrom, Reads}
 use Rattle.srr_log.specs.Refused.{IsPlaced, IsWithin}
 use Rattle.srr_log.proofs.PieceLaws.{some, split_once_at}
 use Rattle.std.proofs.Math.Seq.{drop-length}
 use Rattle.srr_log.specs.declared.read_error.ReadError.{ReadError}
 use Rattle.srr_log.specs.declared.read_error.ReadError.TheVariants.{NoMemory, Fault}
-use Rattle.srr_log.specs.Pieces.{split_once}
+use Rattle.srr_log.specs.inside.Pieces.{split_once}
 use Rattle.srr_log.proofs.ReadLaws.{lists_before}
 use Rattle.std.proofs.lemmas.Option.{some_pair_parts}
 use Rattle.srr_log.proofs.StateLaws.{IsLineState, IsSmallState, line_in, line_read, no_newline, AreRead, after_lists, after_append, runs_split}
-use Rattle.srr_log.proofs.LogLaws.{RunsTo, log_text-is, log_runs, some_log_runs, runs_some_log, IsReached, reached_next, reached_after, reached_small, expected_ok, goes_on, went_on}
+use Rattle.srr_log.proofs.LogLaws.{RunsTo, log_runs, some_log_runs, runs_some_log, IsReached, reached_next, reached_after, reached_small, expected_ok, goes_on, went_on}
 
 -- pieces of one length, and lines, are told apart from what follows them
 same_length : (xs ys rest rest' : List ℕ) → length xs ≡ length ys → xs ++ rest ≡ ys ++ rest' → (xs ≡ ys) × (rest ≡ rest')
@@ -46,7 +46,7 @@ newline_in xs rest none =
     none (length xs) 0 long here
 
 -- the parts that may come at one state are alike
-record Alike (state : State) (part : Part) : Type 0 where
+record Alike (state : ReadingState) (part : LogPart) : Type 0 where
   ends : (rest : List ℕ) → HasNoEnd part rest → HasNoEnd (expected state) rest
   ends' : (rest : List ℕ) → HasNoEnd (expected state) rest → HasNoEnd part rest
   whole : (found : List ℕ) → IsWhole part found → IsWhole (expected state) found
@@ -54,7 +54,7 @@ record Alike (state : State) (part : Part) : Type 0 where
   reason : (found : List ℕ) (why : LogWhy) → IsReason part found why → IsReason (expected state) found why
   is_open : IsOpen state
 
-alike : (state : State) (part : Part) → Allows state part → Alike state part
+alike : (state : ReadingState) (part : LogPart) → Allows state part → Alike state part
 alike at_head head_line ok = record { ends = λ rest h. h; ends' = λ rest h. h; whole = λ found h. h; whole' = λ found h. h; reason = λ found why h. h; is_open = tt }
 alike at_ranks (ranks_line ranks) ok = record { ends = λ rest h. h; ends' = λ rest h. h; whole = λ found h. h; whole' = λ found h. h; reason = λ found why h. h; is_open = tt }
 alike (at_group n) (group_line group) ok = record { ends = λ rest h. h; ends' = λ rest h. h; whole = λ found h. h; whole' = λ found h. h; reason = λ found why h. h; is_open = tt }
@@ -75,7 +75,7 @@ alike (at_entry n group others ranks) (entry_part entry) ok = record { ends = λ
 alike state part ok = absurd ok
 
 -- a part's end is one place
-one_whole : (part : Part) (found found' behind behind' : List ℕ) → IsWhole part found → IsWhole part found' → found ++ behind ≡ found' ++ behind' → (found ≡ found') × (behind ≡ behind')
+one_whole : (part : LogPart) (found found' behind behind' : List ℕ) → IsWhole part found → IsWhole part found' → found ++ behind ≡ found' ++ behind' → (found ≡ found') × (behind ≡ behind')
 one_whole (program_bytes program) found found' behind behind' whole whole' e = same_length found found' behind behind' (whole ∙ sym whole') e
 one_whole part found found' behind behind' (bytes, none, is) (bytes', none', is') e =
     let lines : bytes ++ 10 ∷ behind ≡ bytes' ++ 10 ∷ behind' =
@@ -83,13 +83,13 @@ one_whole part found found' behind behind' (bytes, none, is) (bytes', none', is'
     let same = same_line bytes bytes' behind behind' none none' lines in
     (is ∙ ap (λ xs. xs ++ 10 ∷ []) same.0 ∙ sym is', same.1)
 
-no_end_whole : (part : Part) (rest found behind : List ℕ) → HasNoEnd part rest → IsWhole part found → rest ≡ found ++ behind → ⊥
+no_end_whole : (part : LogPart) (rest found behind : List ℕ) → HasNoEnd part rest → IsWhole part found → rest ≡ found ++ behind → ⊥
 no_end_whole (program_bytes program) rest found behind none whole is =
     let long : length rest ≡ length found + length behind = ap length is ∙ length-append found behind in omega arith
 no_end_whole part rest found behind none (bytes, plain, whole) is =
     newline_in bytes behind (subst HasNoNewline (is ∙ ap (λ xs. xs ++ behind) whole ∙ append_assoc bytes (10 ∷ []) behind) none)
 
-one_reason : (part : Part) (found : List ℕ) (why why' : LogWhy) → IsReason part found why → IsReason part found why' → why ≡ why'
+one_reason : (part : LogPart) (found : List ℕ) (why why' : LogWhy) → IsReason part found why → IsReason part found why' → why ≡ why'
 one_reason head_line found why why' (inl (is, other)) (inl (is', other')) = is ∙ sym is'
 one_reason head_line found why why' (inl (is, other)) (inr (is', none)) = absurd (none other)
 one_reason head_line found why why' (inr (is, none)) (inl (is', other)) = absurd (none other)
@@ -103,7 +103,7 @@ one_reason (entry_part entry) found why why' is is' = is ∙ sym is'
 one_reason end_line found why why' is is' = is ∙ sym is'
 
 -- a part that may come is whole
-part_whole : (state : State) (part : Part) → Allows state part → IsWhole part (part_text part)
+part_whole : (state : ReadingState) (part : LogPart) → Allows state part → IsWhole part (part_text part)
 part_whole at_head head_line ok = (codes "srr 1", no_newline at_head head_line tt ok, refl)
 part_whole at_ranks (ranks_line ranks) ok = (part_line (ranks_line ranks), no_newline at_ranks (ranks_line ranks) tt ok, refl)
 part_whole (at_group n) (group_line group) ok = (part_line (group_line group), no_newline (at_group n) (group_line group) tt ok, refl)
@@ -114,17 +114,17 @@ part_whole (at_list n group []) end_line ok = (codes "end", no_newline (at_list 
 part_whole (at_entry n group others ranks) (entry_part entry) ok = (part_line (entry_part entry), no_newline (at_entry n group others ranks) (entry_part entry) tt ok, refl)
 part_whole state part ok = absurd ok
 
-part_before : (part : Part) (behind : List ℕ) → part_text part ++ behind ≡ line (part_line part) behind
+part_before : (part : LogPart) (behind : List ℕ) → part_text part ++ behind ≡ line (part_line part) behind
 part_before part behind = append_assoc (part_line part) (10 ∷ []) behind
 
 -- one part is first
-same_by_line : (state : State) (part other : Part) → IsSmallState state → IsLineState state → Allows state part → Allows state other → part_text part ≡ part_text other → part ≡ other
+same_by_line : (state : ReadingState) (part other : LogPart) → IsSmallState state → IsLineState state → Allows state part → Allows state other → part_text part ≡ part_text other → part ≡ other
 same_by_line state part other small is ok ok' e =
     let lines = append_cancel_right (part_line part) (part_line other) (10 ∷ []) e in
     let both : some part ≡ some other = sym (line_read state part small is ok) ∙ ap (line_in state) lines ∙ line_read state other small is ok' in
     cc
 
-same_text : (state : State) (part other : Part) → IsReached state → Allows state part → Allows state other → part_text part ≡ part_text other → part ≡ other
+same_text : (state : ReadingState) (part other : LogPart) → IsReached state → Allows state part → Allows state other → part_text part ≡ part_text other → part ≡ other
 same_text (at_program n group size) (program_bytes program) (program_bytes program') reached ok ok' e = ap program_bytes (append_cancel_right program program' (10 ∷ []) e)
 same_text (at_program n group size) (program_bytes program) other reached ok ok' e = absurd ok'
 same_text (at_program n group size) part other reached ok ok' e = absurd ok
@@ -136,7 +136,7 @@ same_text (at_size n group) part other reached ok ok' e = same_by_line (at_size 
 same_text (at_list n group ranks) part other reached ok ok' e = same_by_line (at_list n group ranks) part other (reached_small (at_list n group ranks) reached) tt ok ok' e
 same_text (at_entry n group others ranks) part other reached ok ok' e = same_by_line (at_entry n group others ranks) part other (reached_small (at_entry n group others ranks) reached) tt ok ok' e
 
-first_part : (state : State) (part other : Part) (rest rest' : List ℕ) → IsReached state → Allows state part → Allows state other → line (part_line part) rest ≡ line (part_line other) rest' → (part ≡ other) × (rest ≡ rest')
+first_part : (state : ReadingState) (part other : LogPart) (rest rest' : List ℕ) → IsReached state → Allows state part → Allows state other → line (part_line part) rest ≡ line (part_line other) rest' → (part ≡ other) × (rest ≡ rest')
 first_part state part other rest rest' reached ok ok' e =
     let a = alike state part ok in
     let b = alike state other ok' in
@@ -145,10 +145,10 @@ first_part state part other rest rest' reached ok ok' e =
     (same_text state part other reached ok ok' same.0, same.1)
 
 -- so of two lists of parts in one text one begins the other
-abbrev Begins : List Part → List Part → List ℕ → List ℕ → Type 0
-Begins parts others rest rest' = (more : List Part) × (others ≡ parts ++ more) × (rest ≡ parts_text more rest')
+abbrev Begins : List LogPart → List LogPart → List ℕ → List ℕ → Type 0
+Begins parts others rest rest' = (more : List LogPart) × (others ≡ parts ++ more) × (rest ≡ parts_text more rest')
 
-compare : (state : State) (parts others : List Part) (rest rest' : List ℕ) → IsReached state → Runs state parts → Runs state others → parts_text parts rest ≡ parts_text others rest'
+compare : (state : ReadingState) (parts others : List LogPart) (rest rest' : List ℕ) → IsReached state → Runs state parts → Runs state others → parts_text parts rest ≡ parts_text others rest'
     → Begins parts others rest rest' ⊎ Begins others parts rest' rest
 compare state [] others rest rest' reached run run' e = inl (others, refl, e)
 compare state (part ∷ parts) [] rest rest' reached run run' e = inr (part ∷ parts, refl, sym e)
@@ -161,20 +161,20 @@ compare state (part ∷ parts) (other ∷ others) rest rest' reached (ok, run) (
     ]
 
 -- where there is a fault, no part that may come is there
-fault_no_part : (state : State) (part : Part) (rest behind : List ℕ) (why : LogWhy) (left : ℕ) → FaultAt state rest why left → Allows state part → rest ≡ line (part_line part) behind → ⊥
+fault_no_part : (state : ReadingState) (part : LogPart) (rest behind : List ℕ) (why : LogWhy) (left : ℕ) → FaultAt state rest why left → Allows state part → rest ≡ line (part_line part) behind → ⊥
 fault_no_part state part rest behind why left (inl (short, end, open', none)) ok is =
     no_end_whole part rest (part_text part) behind ((alike state part ok).ends' rest none) (part_whole state part ok) (is ∙ sym (part_before part behind))
-fault_no_part state part rest behind why left (inr (long, inl (extra, ended, some'))) ok is = let P : State → Type 0 = λ s. Allows s part in subst P ended ok
+fault_no_part state part rest behind why left (inr (long, inl (extra, ended, some'))) ok is = let P : ReadingState → Type 0 = λ s. Allows s part in subst P ended ok
 fault_no_part state part rest behind why left (inr (long, inr bad)) ok is =
     let a = alike state part ok in
     let same = one_whole (expected state) (part_text part) bad.found behind bad.behind (a.whole (part_text part) (part_whole state part ok)) bad.whole (part_before part behind ∙ sym is ∙ bad.is) in
     bad.none part ok same.0
 
-open_end : (state : State) → IsOpen state → state ≡ at_end → ⊥
+open_end : (state : ReadingState) → IsOpen state → state ≡ at_end → ⊥
 open_end state open' ended = subst IsOpen ended open'
 
 -- there is one fault there
-fault_one : (state : State) (rest : List ℕ) (why why' : LogWhy) (left left' : ℕ) → FaultAt state rest why left → FaultAt state rest why' left' → (why ≡ why') × (left ≡ left')
+fault_one : (state : ReadingState) (rest : List ℕ) (why why' : LogWhy) (left left' : ℕ) → FaultAt state rest why left → FaultAt state rest why' left' → (why ≡ why') × (left ≡ left')
 fault_one state rest why why' left left' (inl (short, end, open', none)) (inl (short', end', open'', none')) = (short ∙ sym short', end ∙ sym end')
 fault_one state rest why why' left left' (inl (short, end, open', none)) (inr (long, inl (extra, ended, some'))) = absurd (open_end state open' ended)
 fault_one state rest why why' left left' (inl (short, end, open', none)) (inr (long, inr bad)) = absurd (no_end_whole (expected state) rest bad.found bad.behind none bad.whole bad.is)
@@ -188,7 +188,7 @@ fault_one state rest why why' left left' (inr (long, inr bad)) (inr (long', inr 
     (one_reason (expected state) bad'.found why why' (subst (λ f. IsReason (expected state) f why) same.0 bad.reason) bad'.reason, long ∙ sym long')
 
 -- of a whole text
-begun_fault : (state : State) (parts others : List Part) (rest rest' : List ℕ) (why why' : LogWhy) (left left' : ℕ) → Runs state parts → Runs state others → Begins parts others rest rest'
+begun_fault : (state : ReadingState) (parts others : List LogPart) (rest rest' : List ℕ) (why why' : LogWhy) (left left' : ℕ) → Runs state parts → Runs state others → Begins parts others rest rest'
     → FaultAt (after state parts) rest why left → FaultAt (after state others) rest' why' left' → (why ≡ why') × (left ≡ left')
 begun_fault state parts others rest rest' why why' left left' run run' ([], is, same) fault fault' =
     let here : FaultAt (after state parts) rest' why' left' = subst (λ ps. FaultAt (after state ps) rest' why' left') (is ∙ append-nil parts) fault' in
@@ -205,18 +205,18 @@ one_fault_from text why why' left left' (parts, rest, run, is, fault) (others, r
     ]
 
 -- parts that run to the end, before other bytes
-to_the_end : (parts others : List Part) (rest rest' : List ℕ) → RunsTo at_head parts → Runs at_head others → Begins parts others rest rest' → (others ≡ parts) × (rest ≡ rest')
+to_the_end : (parts others : List LogPart) (rest rest' : List ℕ) → RunsTo at_head parts → Runs at_head others → Begins parts others rest rest' → (others ≡ parts) × (rest ≡ rest')
 to_the_end parts others rest rest' to run ([], is, same) = (is ∙ append-nil parts, same)
 to_the_end parts others rest rest' to run (part ∷ more, is, same) =
     let both = runs_split at_head parts (part ∷ more) (subst (Runs at_head) is run) in
-    let P : State → Type 0 = λ s. Allows s part in absurd (subst P to.1 both.1.0)
+    let P : ReadingState → Type 0 = λ s. Allows s part in absurd (subst P to.1 both.1.0)
 
 none_at_end : (why : LogWhy) (left : ℕ) → FaultAt at_end [] why left → ⊥
 none_at_end why left (inl (short, end, open', none)) = open'
 none_at_end why left (inr (long, inl (extra, ended, some'))) = some' refl
 none_at_end why left (inr (long, inr bad)) = bad.open'
 
-begun_none : (parts others : List Part) (rest : List ℕ) (why : LogWhy) (left : ℕ) → Runs at_head parts → RunsTo at_head others → Begins parts others rest [] → FaultAt (after at_head parts) rest why left → ⊥
+begun_none : (parts others : List LogPart) (rest : List ℕ) (why : LogWhy) (left : ℕ) → Runs at_head parts → RunsTo at_head others → Begins parts others rest [] → FaultAt (after at_head parts) rest why left → ⊥
 begun_none parts others rest why left run to ([], is, same) fault =
     let here : FaultAt (after at_head others) rest why left = subst (λ ps. FaultAt (after at_head ps) rest why left) (sym (is ∙ append-nil parts)) fault in
     none_at_end why left (subst (λ xs. FaultAt at_end xs why left) same (subst (λ s. FaultAt s rest why left) to.1 here))
@@ -224,7 +224,7 @@ begun_none parts others rest why left run to (part ∷ more, is, same) fault =
     let both = runs_split at_head parts (part ∷ more) (subst (Runs at_head) is to.0) in
     fault_no_part (after at_head parts) part rest (parts_text more []) why left fault both.1.0 same
 
-pub whole_or_none : (text : List ℕ) (others : List Part) (why : LogWhy) (left : ℕ) → RunsTo at_head others → text ≡ parts_text others [] → FaultFrom at_head text why left → ⊥
+pub whole_or_none : (text : List ℕ) (others : List LogPart) (why : LogWhy) (left : ℕ) → RunsTo at_head others → text ≡ parts_text others [] → FaultFrom at_head text why left → ⊥
 whole_or_none text others why left to is' (parts, rest, run, is, fault) =
     elim (compare at_head parts others rest [] tt run to.0 (sym is ∙ is')) [
       | inl begins ↦ begun_none parts others rest why left run to begins fault
@@ -233,7 +233,7 @@ whole_or_none text others why left to is' (parts, rest, run, is, fault) =
           begun_none parts others rest why left run to ([], sym same.0 ∙ sym (append-nil parts), sym same.1) fault
     ]
 
-pub whole_one : (parts others : List Part) (more : List ℕ) → RunsTo at_head parts → RunsTo at_head others → parts_text parts more ≡ parts_text others [] → (others ≡ parts) × (more ≡ [])
+pub whole_one : (parts others : List LogPart) (more : List ℕ) → RunsTo at_head parts → RunsTo at_head others → parts_text parts more ≡ parts_text others [] → (others ≡ parts) × (more ≡ [])
 whole_one parts others more to to' e =
     elim (compare at_head parts others more [] tt to.0 to'.0 e) [
       | inl begins ↦ to_the_end parts others more [] to to'.0 begins
@@ -241,7 +241,7 @@ whole_one parts others more to to' e =
     ]
 
 -- one log has these parts
-entries_one : (entries others : List Entry) (parts parts' : List Part) → length entries ≡ length others → map entry_part entries ++ parts ≡ map entry_part others ++ parts' → (entries ≡ others) × (parts ≡ parts')
+entries_one : (entries others : List Entry) (parts parts' : List LogPart) → length entries ≡ length others → map entry_part entries ++ parts ≡ map entry_part others ++ parts' → (entries ≡ others) × (parts ≡ parts')
 entries_one [] [] parts parts' many e = (refl, e)
 entries_one [] (other ∷ others) parts parts' many e = absurd (omega arith)
 entries_one (entry ∷ entries) [] parts parts' many e = absurd (omega arith)
@@ -252,7 +252,7 @@ entries_one (entry ∷ entries) (other ∷ others) parts parts' many e =
     let behind = same.0 in
     (cc, same.1)
 
-lists_one : (group : List ℕ) (lists others : List (List Entry)) (parts : List Part) → length lists ≡ length group → length others ≡ length group → lists_parts group lists parts ≡ lists_parts group others parts → lists ≡ others
+lists_one : (group : List ℕ) (lists others : List (List Entry)) (parts : List LogPart) → length lists ≡ length group → length others ≡ length group → lists_parts group lists parts ≡ lists_parts group others parts → lists ≡ others
 lists_one [] [] [] parts many many' e = refl
 lists_one [] (list ∷ lists) others parts many many' e = absurd (omega arith)
 lists_one [] [] (other ∷ others) parts many many' e = absurd (omega arith)
@@ -280,7 +280,7 @@ one_log_of log other many many' e =
     (lists_one log.group log.lists other.lists (end_line ∷ []) many (many' ∙ ap length (sym groups)) listed')
 
 -- by the texts of logs alone
-pub first_fault : (text : List ℕ) (at left : ℕ) (why : LogWhy) → FaultFrom at_head text why left → at + left ≡ length text → IsFirstFault text (record { at = at; why = why })
+pub first_fault : (text : List ℕ) (at left : ℕ) (why : LogWhy) → FaultFrom at_head text why left → at + left ≡ length text → IsFirstPartFault text (record { at = at; why = why })
 first_fault text at left why (parts, rest, run, is, fault) place = (parts, rest, is, by fault)
   where
     by : FaultAt (after at_head parts) rest why left → ((why ≡ Short) × (at ≡ length text) × IsShort parts rest) ⊎ ((at + length rest ≡ length text) × (IsExtra parts rest why ⊎ IsBad parts rest why))
@@ -307,7 +307,7 @@ first_fault text at left why (parts, rest, run, is, fault) place = (parts, rest,
           },
         )
 
-pub fault_first : (text : List ℕ) (fault : LogFault) → IsFirstFault text fault → (left : ℕ) × (fault.at + left ≡ length text) × FaultFrom at_head text fault.why left
+pub fault_first : (text : List ℕ) (fault : LogFault) → IsFirstPartFault text fault → (left : ℕ) × (fault.at + left ≡ length text) × FaultFrom at_head text fault.why left
 fault_first text fault (parts, rest, is, inl (short, at, there)) =
     let went = went_on parts there.next there.more there.goes_on in
     let a = alike (after at_head parts) there.next went.1 in
@@ -344,7 +344,7 @@ fault_first text fault (parts, rest, is, inr (place, inr there)) =
 same_fault : (at at' : ℕ) (why why' : LogWhy) → at ≡ at' → why ≡ why' → ◌≡◌ {A = LogFault} (record { at = at; why = why }) (record { at = at'; why = why' })
 same_fault at at' why why' p q = cc
 
-pub one_first_fault : (text : List ℕ) (fault other : LogFault) → IsFirstFault text fault → IsFirstFault text other → fault ≡ other
+pub one_first_fault : (text : List ℕ) (fault other : LogFault) → IsFirstPartFault text fault → IsFirstPartFault text other → fault ≡ other
 one_first_fault text fault other is is' =
     let a = fault_first text fault is in
     let b = fault_first text other is' in
@@ -352,19 +352,19 @@ one_first_fault text fault other is is' =
     let place : fault.at ≡ other.at = let p = a.1 in let q = b.1 in let r = same.1 in omega arith in
     same_fault fault.at other.at fault.why other.why place same.0
 
-pub fault_or_log : (text : List ℕ) (log : Log) (fault : LogFault) → IsLogText text log → IsFirstFault text fault → ⊥
+pub fault_or_log : (text : List ℕ) (log : Log) (fault : LogFault) → IsLogText text log → IsFirstPartFault text fault → ⊥
 fault_or_log text log fault (is, bounds) first =
     let a = fault_first text fault first in
-    whole_or_none text (log_parts log) fault.why a.0 (log_runs log bounds) (is ∙ log_text-is log) a.2
+    whole_or_none text (log_parts log) fault.why a.0 (log_runs log bounds) is a.2
 
-parts_text-behind : (parts : List Part) (behind more : List ℕ) → parts_text parts behind ++ more ≡ parts_text parts (behind ++ more)
+parts_text-behind : (parts : List LogPart) (behind more : List ℕ) → parts_text parts behind ++ more ≡ parts_text parts (behind ++ more)
 parts_text-behind [] behind more = refl
 parts_text-behind (part ∷ parts) behind more = append_assoc (part_line part) (10 ∷ parts_text parts behind) more ∙ ap (line (part_line part)) (parts_text-behind parts behind more)
 
 pub no_beginning : (log other : Log) (more : List ℕ) → IsInBounds log → IsInBounds other → log_text log ++ more ≡ log_text other → (log ≡ other) × (more ≡ [])
 no_beginning log other more bounds bounds' e =
     let texts : parts_text (log_parts log) more ≡ parts_text (log_parts other) [] =
-    sym (ap (λ xs. xs ++ more) (log_text-is log) ∙ parts_text-behind (log_parts log) [] more) ∙ e ∙ log_text-is other in
+    sym (parts_text-behind (log_parts log) [] more) ∙ e in
     let same = whole_one (log_parts log) (log_parts other) more (log_runs log bounds) (log_runs other bounds') texts in
     (one_log_of log other bounds.as_many bounds'.as_many (sym same.0), same.1)
 
@@ -372,7 +372,7 @@ pub one_log : (text : List ℕ) (log other : Log) → IsLogText text log → IsL
 one_log text log other (is, bounds) (is', bounds') = (no_beginning log other [] bounds bounds' (append-nil (log_text log) ∙ sym is ∙ is')).0
 
 -- what the reader of parts answers
-parts_text_long : (parts : List Part) (rest : List ℕ) → length rest ≤ length (parts_text parts rest)
+parts_text_long : (parts : List LogPart) (rest : List ℕ) → length rest ≤ length (parts_text parts rest)
 parts_text_long [] rest = omega arith
 parts_text_long (part ∷ parts) rest =
     let later = parts_text_long parts rest in
@@ -390,10 +390,10 @@ pub stop_within : (text rest : List ℕ) (stop : ReadError) → Reads at_head lo
 stop_within text rest NoMemory fault = tt
 stop_within text rest (Fault why left) fault = fault_within text why left fault
 
-pub stop_fault : (text rest : List ℕ) (stop : ReadError) (fault : LogFault) → Reads at_head log_parts text (Err stop) rest → IsPlaced stop (length text) fault → (fault ≡ no_memory) ⊎ IsFirstFault text fault
+pub stop_fault : (text rest : List ℕ) (stop : ReadError) (fault : LogFault) → Reads at_head log_parts text (Err stop) rest → IsPlaced stop (length text) fault → (fault ≡ no_memory) ⊎ IsFirstPartFault text fault
 stop_fault text rest NoMemory fault read placed = inl placed
 stop_fault text rest (Fault why left) fault read placed =
-    inr (subst (IsFirstFault text) (same_fault fault.at fault.at why fault.why refl (sym placed.0)) (first_fault text fault.at left why read placed.1))
+    inr (subst (IsFirstPartFault text) (same_fault fault.at fault.at why fault.why refl (sym placed.0)) (first_fault text fault.at left why read placed.1))
 
 after_log : (log : Log) → length log.lists ≡ length log.group → after at_head (log_parts log) ≡ at_end
 after_log log many =
@@ -407,4 +407,4 @@ bounds_from log run many =
     subst IsInBounds (one_log_of some'.0 log some'.1.as_many many some'.2) some'.1
 
 pub read_is_log : (text : List ℕ) (log : Log) → AreRead at_head (log_parts log) text [] → length log.lists ≡ length log.group → IsLogText text log
-read_is_log text log read many = (read.1 ∙ sym (log_text-is log), bounds_from log read.0 many)
+read_is_log text log read many = (read.1, bounds_from log read.0 many)

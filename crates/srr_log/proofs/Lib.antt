@@ -1,3 +1,4 @@
+pub mod FaultNumbers
 pub mod PieceLaws
 pub mod ListLaws
 pub mod NoByteLaws
@@ -5,6 +6,7 @@ pub mod MarkLaws
 pub mod EntryLaws
 pub mod LineLaws
 pub mod StateLaws
+pub mod WriteLaws
 pub mod LogLaws
 pub mod ReadLaws
 pub mod FaultLaws

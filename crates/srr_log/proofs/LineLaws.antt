@@ -8,14 +8,14 @@ use Rattle.wiz_base.specs.Decimals.{decimal_text}
 use Rattle.wiz_base.specs.Readings.{IsDecimal}
 use Rattle.wiz_base.proofs.DecimalLaws.{decimal_text-digit}
 use Rattle.srr_log.specs.declared.fault.LogWhy.TheVariants.{BadHead, BadVersion}
-use Rattle.srr_text.specs.EntryText.{each_after, entry_line}
-use Rattle.srr_text.specs.Bounds.{IsGroup, IsEntry, is_last}
+use Rattle.srr_log.specs.EntryText.{each_after, entry_line}
+use Rattle.srr_log.specs.Bounds.{IsGroup, IsEntry, is_last}
 use Rattle.srr_log.specs.Faults.{IsReason}
 use Rattle.srr_log.specs.Parts.{head_line}
-use Rattle.srr_log.specs.Pieces.{◌>>=◌, behind, split_once, number_in}
+use Rattle.srr_log.specs.inside.Pieces.{◌>>=◌, after_word, split_once, number_in}
 use Rattle.mpi_call.specs.Lists.{rises}
-use Rattle.srr_log.specs.EntryReading.{ranks_in, entry_in}
-use Rattle.srr_log.specs.LineReading.{ranks_line_in, group_line_in, size_line_in, rank_line_in, entry_line_in}
+use Rattle.srr_log.specs.inside.EntryReading.{ranks_in, entry_in}
+use Rattle.srr_log.specs.inside.LineReading.{ranks_line_in, group_line_in, size_line_in, rank_line_in, entry_line_in}
 use Rattle.srr_log.proofs.PieceLaws.{some, bind_some, guard_some, guard_none, behind_word, behind_some, split_once_at, split_once_some, number_read, number_said}
 use Rattle.srr_log.proofs.NoByteLaws.{no_byte_decimal}
 use Rattle.srr_log.proofs.MarkLaws.{rises_rise, rise_rises, ranks_read, ranks_said}
@@ -29,7 +29,7 @@ ranks_line_read ranks above few = rw (behind_word (codes "ranks ") (decimal_text
 pub ranks_line_said : (line : List ℕ) (ranks : ℕ) → ranks_line_in line ≡ some ranks → (0 < ranks) × (ranks ≤ 64) × (line ≡ codes "ranks " ++ decimal_text ranks)
 unfolding ranks_line_in
 ranks_line_said line ranks e =
-    let a = bind_some (behind (codes "ranks ") line) (λ text. number_in 64 text >>= λ ranks. if nat_lt 0 ranks then some ranks else None) ranks e in
+    let a = bind_some (after_word (codes "ranks ") line) (λ text. number_in 64 text >>= λ ranks. if nat_lt 0 ranks then some ranks else None) ranks e in
     let b = bind_some (number_in 64 a.0) (λ ranks. if nat_lt 0 ranks then some ranks else None) ranks a.2 in
     let g = guard_some (nat_lt 0 b.0) b.0 ranks b.2 in
     let said = number_said 64 a.0 b.0 b.1 in
@@ -46,7 +46,7 @@ group_line_read n (rank ∷ group) few good =
 pub group_line_said : (n : ℕ) (line group : List ℕ) → group_line_in n line ≡ some group → IsGroup n group × (line ≡ codes "group" ++ each_after 32 (map decimal_text group))
 unfolding group_line_in
 group_line_said n line group e =
-    let a = bind_some (behind (codes "group ") line) (λ text. ranks_in 32 n text >>= λ group. if rises 0 group then some group else None) group e in
+    let a = bind_some (after_word (codes "group ") line) (λ text. ranks_in 32 n text >>= λ group. if rises 0 group then some group else None) group e in
     let b = bind_some (ranks_in 32 n a.0) (λ group. if rises 0 group then some group else None) group a.2 in
     let g = guard_some (rises 0 b.0) b.0 group b.2 in
     let said = ranks_said 32 n a.0 b.0 b.1 in
@@ -62,7 +62,7 @@ size_line_read size fits = rw (behind_word (codes "program ") (decimal_text size
 pub size_line_said : (line : List ℕ) (size : ℕ) → size_line_in line ≡ some size → (size ≤ 65536) × (line ≡ codes "program " ++ decimal_text size)
 unfolding size_line_in
 size_line_said line size e =
-    let a = bind_some (behind (codes "program ") line) (λ text. number_in 65536 text) size e in
+    let a = bind_some (after_word (codes "program ") line) (λ text. number_in 65536 text) size e in
     let said = number_said 65536 a.0 size a.2 in
     (said.0, behind_some (codes "program ") line a.0 a.1 ∙ ap (λ xs. codes "program " ++ xs) said.1)
 
@@ -81,7 +81,7 @@ rank_line_read rank count small fits =
 pub rank_line_said : (rank : ℕ) (line : List ℕ) (count : ℕ) → rank_line_in rank line ≡ some count → (count ≤ 999064) × (line ≡ codes "rank " ++ decimal_text rank ++ (32 ∷ decimal_text count))
 unfolding rank_line_in
 rank_line_said rank line count e =
-    let a = bind_some (behind (codes "rank ") line) (λ text. split_once 32 text >>= λ parts. number_in 255 parts.0 >>= λ named. number_in 999064 parts.1 >>= λ count. if named == rank then some count else None) count e in
+    let a = bind_some (after_word (codes "rank ") line) (λ text. split_once 32 text >>= λ parts. number_in 255 parts.0 >>= λ named. number_in 999064 parts.1 >>= λ count. if named == rank then some count else None) count e in
     let b = bind_some (split_once 32 a.0) (λ parts. number_in 255 parts.0 >>= λ named. number_in 999064 parts.1 >>= λ count. if named == rank then some count else None) count a.2 in
     let d = bind_some (number_in 255 b.0.0) (λ named. number_in 999064 b.0.1 >>= λ count. if named == rank then some count else None) count b.2 in
     let f = bind_some (number_in 999064 b.0.1) (λ count. if d.0 == rank then some count else None) count d.2 in
@@ -127,7 +127,7 @@ entry_line_said n group others line entry e =
 version_line : (line : List ℕ) (version : ℕ) → line ++ 10 ∷ [] ≡ codes "srr " ++ decimal_text version ++ 10 ∷ [] → line ≡ codes "srr " ++ decimal_text version
 version_line line version e = append_cancel_right line (codes "srr " ++ decimal_text version) (10 ∷ []) e
 
-pub other_version : (line text : List ℕ) → line ≢ codes "srr 1" → behind (codes "srr ") line ≡ some text → IsDecimal text → IsReason head_line (line ++ 10 ∷ []) BadVersion
+pub other_version : (line text : List ℕ) → line ≢ codes "srr 1" → after_word (codes "srr ") line ≡ some text → IsDecimal text → IsReason head_line (line ++ 10 ∷ []) BadVersion
 other_version line text apart is (version, spelled) =
     let whole : line ≡ codes "srr " ++ decimal_text version = behind_some (codes "srr ") line text is ∙ ap (λ xs. codes "srr " ++ xs) spelled in
     inl (refl, (version, λ one. apart (whole ∙ ap (λ v. codes "srr " ++ decimal_text v) one ∙ ap (λ xs. codes "srr " ++ xs) (decimal_text-digit 1 (omega arith))), ap (λ xs. xs ++ 10 ∷ []) whole))
@@ -135,12 +135,12 @@ other_version line text apart is (version, spelled) =
 pub no_version : (line : List ℕ) → ((version : ℕ) → line ≢ codes "srr " ++ decimal_text version) → IsReason head_line (line ++ 10 ∷ []) BadHead
 no_version line none = inr (refl, λ (version, other, is). none version (version_line line version is))
 
-pub none_behind : (line : List ℕ) → behind (codes "srr ") line ≡ None → (version : ℕ) → line ≢ codes "srr " ++ decimal_text version
+pub none_behind : (line : List ℕ) → after_word (codes "srr ") line ≡ None → (version : ℕ) → line ≢ codes "srr " ++ decimal_text version
 none_behind line none version e =
-    let found : some (decimal_text version) ≡ None = sym (behind_word (codes "srr ") (decimal_text version)) ∙ ap (behind (codes "srr ")) (sym e) ∙ none in
+    let found : some (decimal_text version) ≡ None = sym (behind_word (codes "srr ") (decimal_text version)) ∙ ap (after_word (codes "srr ")) (sym e) ∙ none in
     absurd (cc)
 
-pub no_decimal : (line text : List ℕ) → behind (codes "srr ") line ≡ some text → ¬ (IsDecimal text) → (version : ℕ) → line ≢ codes "srr " ++ decimal_text version
+pub no_decimal : (line text : List ℕ) → after_word (codes "srr ") line ≡ some text → ¬ (IsDecimal text) → (version : ℕ) → line ≢ codes "srr " ++ decimal_text version
 no_decimal line text is none version e =
-    let same : some text ≡ some (decimal_text version) = sym is ∙ ap (behind (codes "srr ")) e ∙ behind_word (codes "srr ") (decimal_text version) in
+    let same : some text ≡ some (decimal_text version) = sym is ∙ ap (after_word (codes "srr ")) e ∙ behind_word (codes "srr ") (decimal_text version) in
     none (version, cc)

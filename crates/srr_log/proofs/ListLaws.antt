@@ -3,7 +3,7 @@ use Rattle.std.proofs.Common.{◌≡◌, ℕ, ◌+◌, ◌<◌, List, [], ◌∷
 use Rattle.std.specs.Prelude.{Option, Some, None, Ok, Err}
 use Rattle.srr_log.specs.declared.read_error.Unread.{Unread}
 use Rattle.srr_log.specs.declared.read_error.Unread.TheVariants.{NotAllowed, NoMemory}
-use Rattle.srr_log.specs.Pieces.{◌>>=◌, Gives, Adds, split_once, pieces, all_of}
+use Rattle.srr_log.specs.inside.Pieces.{◌>>=◌, GivesPiece, Adds, split_once, pieces, all_of}
 use Rattle.srr_log.proofs.PieceLaws.{some, split_once_some, pieces_cut, pieces_last}
 
 -- some values, before those that are still read
@@ -37,14 +37,14 @@ none_of : {A : Type 0} (said : List ℕ → Option A) (piece : List ℕ) (others
 none_of said piece others none = rw none refl
 
 pub list_stops : {A : Type 0} (said : List ℕ → Option A) (mark : ℕ) (front now : List A) (rest piece after : List ℕ) (all : Option (List A)) (unread : Unread)
-    → split_once mark rest ≡ some (piece, after) → Adds front now (Err unread) (said piece) → onto front (all_of said (pieces mark rest)) ≡ all → Gives (Err unread) all
+    → split_once mark rest ≡ some (piece, after) → Adds front now (Err unread) (said piece) → onto front (all_of said (pieces mark rest)) ≡ all → GivesPiece (Err unread) all
 list_stops said mark front now rest piece after all NotAllowed is none so_far =
     sym so_far ∙ ap (λ parts. onto front (all_of said parts)) (pieces_cut mark rest piece after is) ∙ ap (onto front) (none_of said piece (pieces mark after) none)
 list_stops said mark front now rest piece after all NoMemory is none so_far = tt
 
 -- the last piece
 pub list_fails : {A : Type 0} (said : List ℕ → Option A) (mark : ℕ) (front now : List A) (rest : List ℕ) (all : Option (List A)) (unread : Unread)
-    → split_once mark rest ≡ None → Adds front now (Err unread) (said rest) → onto front (all_of said (pieces mark rest)) ≡ all → Gives (Err unread) all
+    → split_once mark rest ≡ None → Adds front now (Err unread) (said rest) → onto front (all_of said (pieces mark rest)) ≡ all → GivesPiece (Err unread) all
 list_fails said mark front now rest all NotAllowed is none so_far =
     sym so_far ∙ ap (λ parts. onto front (all_of said parts)) (pieces_last mark rest is) ∙ ap (onto front) (none_of said rest [] none)
 list_fails said mark front now rest all NoMemory is none so_far = tt

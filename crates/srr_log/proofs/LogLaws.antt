@@ -9,34 +9,17 @@ use Rattle.run_model.specs.Lists.{are_below}
 use Rattle.srr_entry.specs.declared.entry.Entry.{Entry}
 use Rattle.srr_entry.specs.declared.entry.Entry.TheVariants.{Sent}
 use Rattle.srr_entry.specs.declared.log.Log.{Log}
-use Rattle.srr_text.specs.EntryText.{entry_line}
-use Rattle.srr_text.specs.LogText.{line, head_text, group_text, program_text, entries_text, list_head_text, lists_text, log_text}
-use Rattle.srr_text.specs.Bounds.{IsGroup, AreEntries, IsList, IsInBounds}
-use Rattle.srr_log.specs.Parts.{Part, head_line, ranks_line, group_line, size_line, program_bytes, rank_line, entry_part, end_line, parts_text, lists_parts, log_parts}
+use Rattle.srr_log.specs.Bounds.{IsGroup, AreEntries, IsList, IsInBounds}
+use Rattle.srr_log.specs.Parts.{LogPart, head_line, ranks_line, group_line, size_line, program_bytes, rank_line, entry_part, end_line, parts_text, lists_parts, log_parts}
 use Rattle.srr_log.specs.Faults.{SomeLog}
-use Rattle.srr_log.specs.Reading.{State, at_head, at_ranks, at_group, at_size, at_program, at_list, at_entry, at_end, entries_left, Allows, next, after, Runs, expected, IsOpen}
+use Rattle.srr_log.specs.inside.Reading.{ReadingState, at_head, at_ranks, at_group, at_size, at_program, at_list, at_entry, at_end, entries_left, Allows, next, after, Runs, expected, IsOpen}
 use Rattle.srr_log.proofs.StateLaws.{IsSmallState, runs_append, after_append, runs_split, parts_text-append, after_entries}
 
--- a log's text is that of its parts
-entries_text-is : (entries : List Entry) (behind : List ℕ) → entries_text entries behind ≡ parts_text (map entry_part entries) behind
-entries_text-is [] behind = refl
-entries_text-is (entry ∷ entries) behind = ap (line (entry_line entry)) (entries_text-is entries behind)
-
-lists_text-is : (group : List ℕ) (lists : List (List Entry)) (parts : List Part) (behind : List ℕ) → lists_text group lists (parts_text parts behind) ≡ parts_text (lists_parts group lists parts) behind
-lists_text-is [] lists parts behind = refl
-lists_text-is (rank ∷ group) [] parts behind = refl
-lists_text-is (rank ∷ group) (entries ∷ lists) parts behind =
-    ap (list_head_text rank (length entries)) (ap (entries_text entries) (lists_text-is group lists parts behind)
-    ∙ entries_text-is entries (parts_text (lists_parts group lists parts) behind) ∙ sym (parts_text-append (map entry_part entries) (lists_parts group lists parts) behind))
-
-pub log_text-is : (log : Log) → log_text log ≡ parts_text (log_parts log) []
-log_text-is log = ap (λ xs. head_text log.ranks (group_text log.group (program_text log.program xs))) (lists_text-is log.group log.lists (end_line ∷ []) [])
-
 -- the parts of a log run to the end
-abbrev pub RunsTo : State → List Part → Type 0
+abbrev pub RunsTo : ReadingState → List LogPart → Type 0
 RunsTo state parts = Runs state parts × (after state parts ≡ at_end)
 
-runs_to_append : (state : State) (parts others : List Part) → Runs state parts → RunsTo (after state parts) others → RunsTo state (parts ++ others)
+runs_to_append : (state : ReadingState) (parts others : List LogPart) → Runs state parts → RunsTo (after state parts) others → RunsTo state (parts ++ others)
 runs_to_append state parts others run to = (runs_append state parts others run to.0, after_append state parts others ∙ to.1)
 
 entries_run : (n : ℕ) (group ranks : List ℕ) (entries : List Entry) → AreEntries n group entries → Runs (entries_left n group (length entries) ranks) (map entry_part entries)
@@ -61,16 +44,16 @@ log_runs log bounds =
     let later = lists_run log.ranks log.group log.group log.lists bounds.as_many (recursion_from_All (IsList log.ranks log.group) log.lists bounds.lists) in
     ((tt, (bounds.ranks, (bounds.group, (bounds.program, (refl, later.0))))), later.1)
 
-pub some_log_runs : (parts : List Part) → SomeLog parts → RunsTo at_head parts
+pub some_log_runs : (parts : List LogPart) → SomeLog parts → RunsTo at_head parts
 some_log_runs parts (log, bounds, is) = subst (RunsTo at_head) is (log_runs log bounds)
 
 -- nothing runs from the end
-pub end_stops : (parts : List Part) → Runs at_end parts → parts ≡ []
+pub end_stops : (parts : List LogPart) → Runs at_end parts → parts ≡ []
 end_stops [] run = refl
 end_stops (part ∷ parts) (ok, run) = absurd ok
 
 -- and parts that run to the end are those of a log: first the lists, from within one
-record ListsOf (n : ℕ) (group : List ℕ) (left : ℕ) (ranks : List ℕ) (parts : List Part) : Type 0 where
+record ListsOf (n : ℕ) (group : List ℕ) (left : ℕ) (ranks : List ℕ) (parts : List LogPart) : Type 0 where
   entries : List Entry
   lists : List (List Entry)
   many : length entries ≡ left
@@ -85,7 +68,7 @@ list_apart n group ranks e = cc
 entry_apart : (n : ℕ) (group : List ℕ) (others : ℕ) (ranks : List ℕ) → at_entry n group others ranks ≢ at_end
 entry_apart n group others ranks e = cc
 
-lists_of : (n : ℕ) (group : List ℕ) (left : ℕ) (ranks : List ℕ) (parts : List Part) → RunsTo (entries_left n group left ranks) parts → ListsOf n group left ranks parts
+lists_of : (n : ℕ) (group : List ℕ) (left : ℕ) (ranks : List ℕ) (parts : List LogPart) → RunsTo (entries_left n group left ranks) parts → ListsOf n group left ranks parts
 lists_of n group zero ranks [] to = absurd (list_apart n group ranks to.1)
 lists_of n group (suc left) ranks [] to = absurd (entry_apart n group left ranks to.1)
 lists_of n group zero [] (end_line ∷ parts) to =
@@ -117,11 +100,11 @@ lists_of n group (suc left) ranks (entry_part entry ∷ parts) to =
 lists_of n group (suc left) ranks (part ∷ parts) to = absurd to.0.0
 
 -- then the parts before
-abbrev LogFrom : ℕ → List ℕ → List ℕ → List Part → Type 0
+abbrev LogFrom : ℕ → List ℕ → List ℕ → List LogPart → Type 0
 LogFrom n group program parts = (0 < n) × (n ≤ 64) × IsGroup n group × (length program ≤ 65536)
     × SomeLog (head_line ∷ ranks_line n ∷ group_line group ∷ size_line (length program) ∷ program_bytes program ∷ parts)
 
-log_from_lists : (n : ℕ) (group program : List ℕ) (parts : List Part) → (0 < n) → (n ≤ 64) → IsGroup n group → length program ≤ 65536 → RunsTo (at_list n group group) parts
+log_from_lists : (n : ℕ) (group program : List ℕ) (parts : List LogPart) → (0 < n) → (n ≤ 64) → IsGroup n group → length program ≤ 65536 → RunsTo (at_list n group group) parts
     → SomeLog (head_line ∷ ranks_line n ∷ group_line group ∷ size_line (length program) ∷ program_bytes program ∷ parts)
 log_from_lists n group program parts some' few good fits to =
     let l = lists_of n group 0 group parts to in
@@ -132,7 +115,7 @@ log_from_lists n group program parts some' few good fits to =
       ap (λ ps. head_line ∷ ranks_line n ∷ group_line group ∷ size_line (length program) ∷ program_bytes program ∷ ps) is,
     )
 
-log_from_program : (n : ℕ) (group : List ℕ) (size : ℕ) (parts : List Part) → (0 < n) → (n ≤ 64) → IsGroup n group → size ≤ 65536 → RunsTo (at_program n group size) parts
+log_from_program : (n : ℕ) (group : List ℕ) (size : ℕ) (parts : List LogPart) → (0 < n) → (n ≤ 64) → IsGroup n group → size ≤ 65536 → RunsTo (at_program n group size) parts
     → SomeLog (head_line ∷ ranks_line n ∷ group_line group ∷ size_line size ∷ parts)
 log_from_program n group size [] some' few good fits to = absurd (cc (to.1))
 log_from_program n group size (program_bytes program ∷ parts) some' few good fits to =
@@ -140,28 +123,28 @@ log_from_program n group size (program_bytes program ∷ parts) some' few good f
     (log_from_lists n group program parts some' few good (let long = to.0.0 in omega arith) (to.0.1, to.1))
 log_from_program n group size (part ∷ parts) some' few good fits to = absurd to.0.0
 
-log_from_size : (n : ℕ) (group : List ℕ) (parts : List Part) → (0 < n) → (n ≤ 64) → IsGroup n group → RunsTo (at_size n group) parts → SomeLog (head_line ∷ ranks_line n ∷ group_line group ∷ parts)
+log_from_size : (n : ℕ) (group : List ℕ) (parts : List LogPart) → (0 < n) → (n ≤ 64) → IsGroup n group → RunsTo (at_size n group) parts → SomeLog (head_line ∷ ranks_line n ∷ group_line group ∷ parts)
 log_from_size n group [] some' few good to = absurd (cc (to.1))
 log_from_size n group (size_line size ∷ parts) some' few good to = log_from_program n group size parts some' few good to.0.0 (to.0.1, to.1)
 log_from_size n group (part ∷ parts) some' few good to = absurd to.0.0
 
-log_from_group : (n : ℕ) (parts : List Part) → (0 < n) → (n ≤ 64) → RunsTo (at_group n) parts → SomeLog (head_line ∷ ranks_line n ∷ parts)
+log_from_group : (n : ℕ) (parts : List LogPart) → (0 < n) → (n ≤ 64) → RunsTo (at_group n) parts → SomeLog (head_line ∷ ranks_line n ∷ parts)
 log_from_group n [] some' few to = absurd (cc (to.1))
 log_from_group n (group_line group ∷ parts) some' few to = log_from_size n group parts some' few to.0.0 (to.0.1, to.1)
 log_from_group n (part ∷ parts) some' few to = absurd to.0.0
 
-log_from_ranks : (parts : List Part) → RunsTo at_ranks parts → SomeLog (head_line ∷ parts)
+log_from_ranks : (parts : List LogPart) → RunsTo at_ranks parts → SomeLog (head_line ∷ parts)
 log_from_ranks [] to = absurd (cc (to.1))
 log_from_ranks (ranks_line n ∷ parts) to = log_from_group n parts to.0.0.0 to.0.0.1 (to.0.1, to.1)
 log_from_ranks (part ∷ parts) to = absurd to.0.0
 
-pub runs_some_log : (parts : List Part) → RunsTo at_head parts → SomeLog parts
+pub runs_some_log : (parts : List LogPart) → RunsTo at_head parts → SomeLog parts
 runs_some_log [] to = absurd (cc (to.1))
 runs_some_log (head_line ∷ parts) to = log_from_ranks parts (to.0.1, to.1)
 runs_some_log (part ∷ parts) to = absurd to.0.0
 
 -- what holds at each state that is reached
-abbrev pub IsReached : State → Type 0
+abbrev pub IsReached : ReadingState → Type 0
 IsReached (at_group n) = (0 < n) × (n ≤ 64)
 IsReached (at_size n group) = (n ≤ 64) × (are_below n group ≡ true)
 IsReached (at_program n group size) = (n ≤ 64) × (are_below n group ≡ true)
@@ -173,7 +156,7 @@ reached_entries : (n : ℕ) (group : List ℕ) (left : ℕ) (ranks : List ℕ) �
 reached_entries n group zero ranks few below = (few, below)
 reached_entries n group (suc left) ranks few below = (few, below)
 
-pub reached_next : (state : State) (part : Part) → IsReached state → Allows state part → IsReached (next state part)
+pub reached_next : (state : ReadingState) (part : LogPart) → IsReached state → Allows state part → IsReached (next state part)
 reached_next at_head part reached ok = tt
 reached_next at_ranks (ranks_line ranks) reached ok = ok
 reached_next (at_group n) (group_line group) reached ok = (reached.1, ok.2)
@@ -184,11 +167,11 @@ reached_next (at_list n group []) part reached ok = tt
 reached_next (at_entry n group others ranks) part reached ok = reached_entries n group others ranks reached.0 reached.1
 reached_next state part reached ok = absurd ok
 
-pub reached_after : (state : State) (parts : List Part) → IsReached state → Runs state parts → IsReached (after state parts)
+pub reached_after : (state : ReadingState) (parts : List LogPart) → IsReached state → Runs state parts → IsReached (after state parts)
 reached_after state [] reached run = reached
 reached_after state (part ∷ parts) reached (ok, run) = reached_after (next state part) parts (reached_next state part reached ok) run
 
-pub reached_small : (state : State) → IsReached state → IsSmallState state
+pub reached_small : (state : ReadingState) → IsReached state → IsSmallState state
 reached_small at_head reached = tt
 reached_small at_ranks reached = tt
 reached_small (at_group n) reached = let few = reached.1 in omega arith
@@ -202,8 +185,8 @@ reached_small (at_entry n group others ranks) reached = let few = reached.0 in o
 reached_small at_end reached = tt
 
 -- a reached state can be brought to the end
-abbrev pub Completes : State → Type 0
-Completes state = (parts : List Part) × RunsTo state parts
+abbrev pub Completes : ReadingState → Type 0
+Completes state = (parts : List LogPart) × RunsTo state parts
 
 completes_list : (n : ℕ) (group ranks : List ℕ) → Completes (at_list n group ranks)
 completes_list n group [] = (end_line ∷ [], ((tt, tt), refl))
@@ -240,7 +223,7 @@ completes_ranks =
     let later = completes_group 1 (omega arith) in
     (ranks_line 1 ∷ later.0, (((omega arith, omega arith), later.1.0), later.1.1))
 
-pub completes : (state : State) → IsReached state → Completes state
+pub completes : (state : ReadingState) → IsReached state → Completes state
 completes at_head reached = (head_line ∷ completes_ranks.0, ((tt, completes_ranks.1.0), completes_ranks.1.1))
 completes at_ranks reached = completes_ranks
 completes (at_group n) reached = completes_group n reached.0
@@ -251,7 +234,7 @@ completes (at_entry n group others ranks) reached = completes_entries n group (s
 completes at_end reached = ([], (tt, refl))
 
 -- the expected part may come
-pub expected_ok : (state : State) → IsReached state → IsOpen state → Allows state (expected state)
+pub expected_ok : (state : ReadingState) → IsReached state → IsOpen state → Allows state (expected state)
 expected_ok at_head reached open' = tt
 expected_ok at_ranks reached open' = (omega arith, omega arith)
 expected_ok (at_group n) reached open' = first_group n reached.0
@@ -263,14 +246,14 @@ expected_ok (at_entry n group others ranks) reached open' = (tt, λ last. absurd
 expected_ok at_end reached open' = absurd open'
 
 -- so some log goes on with each part that may come
-pub goes_on : (front : List Part) (part : Part) → Runs at_head front → Allows (after at_head front) part → (more : List Part) × SomeLog (front ++ part ∷ more)
+pub goes_on : (front : List LogPart) (part : LogPart) → Runs at_head front → Allows (after at_head front) part → (more : List LogPart) × SomeLog (front ++ part ∷ more)
 goes_on front part run ok =
     let reached = reached_next (after at_head front) part (reached_after at_head front tt run) ok in
     let later = completes (next (after at_head front) part) reached in
     (later.0, runs_some_log (front ++ part ∷ later.0) (runs_to_append at_head front (part ∷ later.0) run ((ok, later.1.0), later.1.1)))
 
 -- and only with these
-pub went_on : (front : List Part) (part : Part) (more : List Part) → SomeLog (front ++ part ∷ more) → Runs at_head front × Allows (after at_head front) part
+pub went_on : (front : List LogPart) (part : LogPart) (more : List LogPart) → SomeLog (front ++ part ∷ more) → Runs at_head front × Allows (after at_head front) part
 went_on front part more some' =
     let to = some_log_runs (front ++ part ∷ more) some' in
     let both = runs_split at_head front (part ∷ more) to.0 in

@@ -11,30 +11,30 @@ use Rattle.wiz_base.specs.Decimals.{decimal_text}
 use Rattle.wiz_base.specs.Lines.{HasNoNewline}
 use Rattle.wiz_base.specs.Readings.{IsDecimal}
 use Rattle.wiz_base.proofs.DecimalLaws.{decimal_text-is}
-use Rattle.srr_text.specs.LogText.{IsLogText, line}
+use Rattle.srr_log.specs.LogText.{IsLogText}
 use Rattle.srr_log.specs.declared.fault.LogFault.{LogFault}
 use Rattle.srr_log.specs.declared.fault.LogWhy.{LogWhy}
 use Rattle.srr_log.specs.declared.fault.LogWhy.TheVariants.{BadHead, BadNumber, BadGroup, BadEntry, Short, Extra, BadVersion}
-use Rattle.srr_log.specs.Faults.{IsFirstFault, IsReason}
-use Rattle.srr_log.specs.Parts.{Part, head_line, program_bytes, part_line, parts_text}
-use Rattle.srr_log.specs.Pieces.{behind}
-use Rattle.srr_log.specs.Reading.{State, at_head, at_ranks, at_group, at_size, at_program, at_list, at_entry, at_end, Allows, next, expected, FaultFrom}
+use Rattle.srr_log.specs.Faults.{IsFirstPartFault, IsReason}
+use Rattle.srr_log.specs.Parts.{LogPart, head_line, program_bytes, part_line, parts_text, line}
+use Rattle.srr_log.specs.inside.Pieces.{after_word}
+use Rattle.srr_log.specs.inside.Reading.{ReadingState, at_head, at_ranks, at_group, at_size, at_program, at_list, at_entry, at_end, Allows, next, expected, FaultFrom}
 use Rattle.srr_log.proofs.FaultLaws.{fault_within, first_fault}
 use Rattle.srr_log.proofs.LineLaws.{no_decimal, no_version, none_behind, other_version}
-use Rattle.srr_log.proofs.LogLaws.{IsReached, RunsTo, log_text-is, reached_next, reached_small, runs_some_log}
+use Rattle.srr_log.proofs.LogLaws.{IsReached, RunsTo, reached_next, reached_small, runs_some_log}
 use Rattle.srr_log.proofs.NoByteLaws.{no_byte_cons, no_byte_nil}
 use Rattle.srr_log.proofs.PieceLaws.{said_cases, same_word, some, word_same}
 use Rattle.srr_log.proofs.StateLaws.{IsLineState, bad_line, fault_behind, fault_here, line_in, line_said, reads_bad_program, short_line}
 
 -- the parts up to the end of a log, or a fault
-abbrev IsRead : State → List ℕ → Type 0
+abbrev IsRead : ReadingState → List ℕ → Type 0
 IsRead state text =
-    ((parts : List Part) × RunsTo state parts × (text ≡ parts_text parts []))
+    ((parts : List LogPart) × RunsTo state parts × (text ≡ parts_text parts []))
     ⊎ ((why : LogWhy) × (left : ℕ) × FaultFrom state text why left)
 
 -- so is each shorter text at each state that is reached
 abbrev AreShorterRead : ℕ → Type 0
-AreShorterRead size = (state : State) (text : List ℕ) → length text < size → IsReached state → IsRead state text
+AreShorterRead size = (state : ReadingState) (text : List ℕ) → length text < size → IsReached state → IsRead state text
 
 -- a text has a line, or no newline
 cut_line : (text : List ℕ) → HasNoNewline text ⊎ ((bytes : List ℕ) × (rest : List ℕ) × HasNoNewline bytes × (text ≡ bytes ++ 10 ∷ rest))
@@ -61,7 +61,7 @@ decimal_or_none text =
 -- a line that is no part has a reason
 head_reason : (bytes : List ℕ) → bytes ≢ codes "srr 1" → (why : LogWhy) × IsReason head_line (bytes ++ 10 ∷ []) why
 head_reason bytes apart =
-    elim (said_cases (behind (codes "srr ") bytes)) [
+    elim (said_cases (after_word (codes "srr ") bytes)) [
       | inl (text, is) ↦ elim (decimal_or_none text) [
         | inl decimal ↦ (BadVersion, other_version bytes text apart is decimal)
         | inr none ↦ (BadHead, no_version bytes (no_decimal bytes text is none))
@@ -69,7 +69,7 @@ head_reason bytes apart =
       | inr none ↦ (BadHead, no_version bytes (none_behind bytes none))
     ]
 
-reason_of : (state : State) (bytes : List ℕ) → IsLineState state → line_in state bytes ≡ None → (why : LogWhy) × IsReason (expected state) (bytes ++ 10 ∷ []) why
+reason_of : (state : ReadingState) (bytes : List ℕ) → IsLineState state → line_in state bytes ≡ None → (why : LogWhy) × IsReason (expected state) (bytes ++ 10 ∷ []) why
 reason_of at_head bytes is none =
     head_reason bytes (λ e. let found : some head_line ≡ None = sym (ap (line_in at_head) e) ∙ none in absurd (cc))
 reason_of at_ranks bytes is none = (BadNumber, refl)
@@ -82,7 +82,7 @@ reason_of (at_entry n group others ranks) bytes is none = (BadEntry, refl)
 reason_of at_end bytes is none = absurd is
 
 -- a part that may come, and what is read behind it
-one_more : (state : State) (part : Part) (text rest : List ℕ) → Allows state part → text ≡ line (part_line part) rest → IsRead (next state part) rest → IsRead state text
+one_more : (state : ReadingState) (part : LogPart) (text rest : List ℕ) → Allows state part → text ≡ line (part_line part) rest → IsRead (next state part) rest → IsRead state text
 one_more state part text rest ok is (inl (parts, to, whole)) = inl (part ∷ parts, ((ok, to.0), to.1), is ∙ ap (line (part_line part)) whole)
 one_more state part text rest ok is (inr (why, left, fault)) = inr (why, left, fault_behind state (part ∷ []) text rest why left (ok, tt) is fault)
 
@@ -90,7 +90,7 @@ line_shorter : (bytes rest text : List ℕ) → text ≡ bytes ++ 10 ∷ rest �
 line_shorter bytes rest text is =
     let long : length text ≡ length bytes + length (10 ∷ rest) = ap length is ∙ length-append bytes (10 ∷ rest) in omega (arith, long)
 
-read_line : (state : State) (text : List ℕ) → IsLineState state → IsReached state → AreShorterRead (length text) → IsRead state text
+read_line : (state : ReadingState) (text : List ℕ) → IsLineState state → IsReached state → AreShorterRead (length text) → IsRead state text
 read_line state text is reached more =
     elim (cut_line text) [
       | inl none ↦ inr (Short, 0, short_line state text is none)
@@ -136,7 +136,7 @@ read_program n group size text reached more =
           inr (Short, 0, fault_here (at_program n group size) text Short 0 (inl (refl, refl, tt, omega (arith, few, same)))))
     ]
 
-read_at : (state : State) (text : List ℕ) → IsReached state → AreShorterRead (length text) → IsRead state text
+read_at : (state : ReadingState) (text : List ℕ) → IsReached state → AreShorterRead (length text) → IsRead state text
 read_at at_head text reached more = read_line at_head text tt reached more
 read_at at_ranks text reached more = read_line at_ranks text tt reached more
 read_at (at_group n) text reached more = read_line (at_group n) text tt reached more
@@ -153,12 +153,12 @@ read_all zero state text few reached = absurd (omega (arith, few))
 read_all (suc size) state text few reached =
     read_at state text reached (λ later rest shorter later_reached. read_all size later rest (omega (arith, few, shorter)) later_reached)
 
-pub log_or_fault : (text : List ℕ) → ((log : Log) × IsLogText text log) ⊎ ((fault : LogFault) × IsFirstFault text fault)
+pub log_or_fault : (text : List ℕ) → ((log : Log) × IsLogText text log) ⊎ ((fault : LogFault) × IsFirstPartFault text fault)
 log_or_fault text =
     elim (read_all (suc (length text)) at_head text (omega arith) tt) [
       | inl (parts, to, whole) ↦ (
           let log = runs_some_log parts to in
-          inl (log.0, (whole ∙ ap (λ ps. parts_text ps []) (sym log.2) ∙ sym (log_text-is log.0), log.1)))
+          inl (log.0, (whole ∙ ap (λ ps. parts_text ps []) (sym log.2), log.1)))
       | inr (why, left, fault) ↦ (
           let within : left ≤ length text = fault_within text why left fault in
           inr (record { at = length text - left; why = why }, first_fault text (length text - left) left why fault (omega (arith, within))))

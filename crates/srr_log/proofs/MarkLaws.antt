@@ -14,11 +14,11 @@ use Rattle.srr_entry.specs.declared.entry.Mark.{Mark}
 use Rattle.srr_entry.specs.declared.entry.Mark.TheVariants.{Sent as MarkSent, Nothing, Inside, Outside, Inner, Outer, Made, MadeOutside}
 use Rattle.wiz_base.specs.Decimals.{decimal_text, number_text}
 use Rattle.wiz_base.proofs.DecimalLaws.{decimal_text-bytes, decimal_text-nonempty, decimal_text-excludes, number_text-nonempty}
-use Rattle.srr_text.specs.EntryText.{each_after, by_commas, ints_text, name_text, mark_text}
+use Rattle.srr_log.specs.EntryText.{each_after, by_commas, ints_text, name_text, mark_text}
 use Rattle.mpi_call.specs.Lists.{Rises, rises}
-use Rattle.srr_text.specs.Bounds.{IsSmallNumber, IsTag, AreInts, IsSender, IsMark}
-use Rattle.srr_log.specs.Pieces.{◌>>=◌, behind, split_once, pieces, all_of, number_in, int_in, rank_in}
-use Rattle.srr_log.specs.EntryReading.{ints_in, few_ints_in, ranks_in, inside_in, outside_in, message_split, message_in, made_split, made_in, long_mark, long_mark_in, mark_in}
+use Rattle.srr_log.specs.Bounds.{IsSmallNumber, IsTag, AreInts, IsSender, IsMark}
+use Rattle.srr_log.specs.inside.Pieces.{◌>>=◌, after_word, split_once, pieces, all_of, number_in, int_in, rank_in}
+use Rattle.srr_log.specs.inside.EntryReading.{ints_in, few_ints_in, ranks_in, inside_in, outside_in, message_split, message_in, made_split, made_in, long_mark, long_mark_in, mark_in}
 use Rattle.srr_log.proofs.PieceLaws.{some, bind_some, guard_some, guard_none, same_word, behind_some, split_once_at, split_once_none, split_once_some, pieces_joined, joined_pieces, some_pieces, all_of_map, map_all_of, number_read, number_said, int_read, int_said, rank_read, rank_said}
 use Rattle.srr_log.proofs.NoByteLaws.{NoByte, no_byte_append, no_byte_cons, no_byte_decimal, no_byte_number}
 
@@ -274,7 +274,7 @@ digit_first n = by (decimal_text n) (decimal_text-bytes n) (decimal_text-nonempt
     by (digit ∷ others) digits long = (digit, others, refl, All-head IsAsciiDigit digit others digits)
 
 digit_long : (n : ℕ) (group : List ℕ) (digit : ℕ) (text : List ℕ) → IsAsciiDigit digit → mark_in n group (digit ∷ text) ≡ message_in n group (digit ∷ text)
-unfolding mark_in long_mark_in behind
+unfolding mark_in long_mark_in after_word
 digit_long n group digit text is =
     rw (
       ne_eqb digit 115 (λ e. omega (arith, is.1)),
@@ -290,11 +290,11 @@ number_long n group number text =
     ap (λ xs. mark_in n group (xs ++ text)) first.2 ∙ digit_long n group first.0 (first.1 ++ text) first.3 ∙ ap (λ xs. message_in n group (xs ++ text)) (sym first.2)
 
 outer_read : (n : ℕ) (group : List ℕ) (ints : List ℤ) → AreInts 262144 ints → mark_in n group (99 ∷ 58 ∷ ints_text ints) ≡ some (Outer ints)
-unfolding mark_in long_mark_in behind
+unfolding mark_in long_mark_in after_word
 outer_read n group ints good = rw (few_ints_read 262144 ints good) refl
 
 new_read : (n : ℕ) (group text : List ℕ) → mark_in n group (109 ∷ 46 ∷ text) ≡ made_in n text
-unfolding mark_in long_mark_in behind
+unfolding mark_in long_mark_in after_word
 new_read n group text = refl
 
 letter_read : (n : ℕ) (group : List ℕ) → (mark_in n group (codes "s") ≡ some MarkSent) × (mark_in n group (codes "n") ≡ some Nothing) × (mark_in n group (codes "c") ≡ some Inner)
@@ -316,7 +316,7 @@ mark_read n group few (Made comm) good = new_read n group (decimal_text comm) �
 mark_read n group few (MadeOutside comm members) good =
     new_read n group (decimal_text comm ++ 58 ∷ by_commas (map decimal_text members)) ∙ made_read_long n comm members few good.0 good.1 good.2 good.3 good.4
 
-long_said : (n : ℕ) (group text : List ℕ) (outer made : Option (List ℕ)) (mark : Mark) → behind (codes "c:") text ≡ outer → behind (codes "m.") text ≡ made
+long_said : (n : ℕ) (group text : List ℕ) (outer made : Option (List ℕ)) (mark : Mark) → after_word (codes "c:") text ≡ outer → after_word (codes "m.") text ≡ made
     → long_mark n group text outer made ≡ some mark → IsMarkText n group text mark
 long_said n group text (Some outer) made mark is is' e =
     let a = bind_some (few_ints_in 262144 outer) (λ ints. some (Outer ints)) mark e in
@@ -330,7 +330,7 @@ long_said n group text None None mark is is' e = message_said n group text mark 
 
 long_mark_said : (n : ℕ) (group text : List ℕ) (mark : Mark) → long_mark_in n group text ≡ some mark → IsMarkText n group text mark
 unfolding long_mark_in
-long_mark_said n group text mark e = long_said n group text (behind (codes "c:") text) (behind (codes "m.") text) mark refl refl e
+long_mark_said n group text mark e = long_said n group text (after_word (codes "c:") text) (after_word (codes "m.") text) mark refl refl e
 
 -- a test that passed, or the others
 pub pick : {A : Type 0} (b : Bool) (x : A) (others : Option A) (y : A) → (if b then some x else others) ≡ some y → ((b ≡ true) × (x ≡ y)) ⊎ (others ≡ some y)

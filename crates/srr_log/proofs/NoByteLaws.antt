@@ -13,7 +13,7 @@ use Rattle.srr_entry.specs.declared.entry.Entry.{Entry}
 use Rattle.srr_entry.specs.declared.entry.Entry.TheVariants.{Sent, Posted, Entered, Ended, Took, NotYet, PeekedInside, PeekedOutside, Stopped}
 use Rattle.wiz_base.specs.Decimals.{decimal_text, number_text}
 use Rattle.wiz_base.proofs.DecimalLaws.{decimal_text-excludes, number_text-excludes}
-use Rattle.srr_text.specs.EntryText.{each_after, by_commas, ints_text, name_text, mark_text, item_text, halt_number, halt_details, entry_line}
+use Rattle.srr_log.specs.EntryText.{each_after, by_commas, ints_text, name_text, mark_text, item_text, halt_number, halt_details, entry_line}
 
 abbrev pub NoByte : ℕ → List ℕ → Type 0
 NoByte byte text = All (λ b. b ≢ byte) text

@@ -21,8 +21,8 @@ use Rattle.wiz_base.specs.declared.fault.NumberFault.{NumberFault}
 use Rattle.wiz_base.specs.Readings.{IsDecimalUpTo, IsReading}
 use Rattle.wiz_base.proofs.ReadingLaws.{IsReading-unique}
 use Rattle.wiz_base.proofs.DecimalLaws.{decimal_text-is, decimal_text-bytes, decimal_text-nonempty, number_text_injective}
-use Rattle.srr_text.specs.EntryText.{each_after}
-use Rattle.srr_log.specs.Pieces.{◌>>=◌, GivesText, GivesSplit, behind, with_byte, split_once, pieces, all_of, number_in, signed_value, is_int, int_in, rank_in}
+use Rattle.srr_log.specs.EntryText.{each_after}
+use Rattle.srr_log.specs.inside.Pieces.{◌>>=◌, GivesText, GivesSplit, after_word, with_byte, split_once, pieces, all_of, number_in, signed_value, is_int, int_in, rank_in}
 
 abbrev pub some : {A : Type 0} → A → Option A
 some x = Some x
@@ -51,13 +51,13 @@ same_word text word e = (bytes_eq-Decides text word).0 e
 pub word_same : (text : List ℕ) → bytes_eq text text ≡ true
 word_same text = (bytes_eq-Decides text text).1 refl
 
-pub behind_word : (word rest : List ℕ) → behind word (word ++ rest) ≡ some rest
-unfolding behind
+pub behind_word : (word rest : List ℕ) → after_word word (word ++ rest) ≡ some rest
+unfolding after_word
 behind_word [] rest = refl
 behind_word (byte ∷ word) rest = rw (eq-eqb byte byte refl) (behind_word word rest)
 
-pub behind_some : (word text rest : List ℕ) → behind word text ≡ some rest → text ≡ word ++ rest
-unfolding behind
+pub behind_some : (word text rest : List ℕ) → after_word word text ≡ some rest → text ≡ word ++ rest
+unfolding after_word
 behind_some [] text rest e = cc
 behind_some (b ∷ word) [] rest e = absurd (cc)
 behind_some (b ∷ word) (c ∷ text) rest e =
@@ -68,9 +68,9 @@ behind_some (b ∷ word) (c ∷ text) rest e =
       | inr apart ↦ let none : None ≡ some rest = rw apart at e in absurd (cc)
     ]
 
-pub gives_behind : (word text : List ℕ) (r : Option (Bor (List ℕ))) → MatchOption r ((rest : List ℕ) → text ≢ word ++ rest) (λ x. text ≡ word ++ x.now) → GivesText r (behind word text)
-gives_behind word text (Some x) is = ap (behind word) is ∙ behind_word word x.now
-gives_behind word text None none = elim (said_cases (behind word text)) [
+pub gives_behind : (word text : List ℕ) (r : Option (Bor (List ℕ))) → MatchOption r ((rest : List ℕ) → text ≢ word ++ rest) (λ x. text ≡ word ++ x.now) → GivesText r (after_word word text)
+gives_behind word text (Some x) is = ap (after_word word) is ∙ behind_word word x.now
+gives_behind word text None none = elim (said_cases (after_word word text)) [
   | inl found ↦ absurd (none found.0 (behind_some word text found.0 found.1))
   | inr is ↦ is
 ]

@@ -14,33 +14,32 @@ use Rattle.srr_log.specs.declared.read_error.ReadError.{ReadError}
 use Rattle.srr_log.specs.declared.read_error.ReadError.TheVariants.{NoMemory, Fault}
 use Rattle.srr_log.specs.declared.read_error.Unread.{Unread}
 use Rattle.srr_log.specs.declared.read_error.Unread.TheVariants.{NotAllowed, NoMemory as UnreadMemory}
-use Rattle.srr_text.specs.EntryText.{each_after}
-use Rattle.srr_text.specs.LogText.{line}
-use Rattle.srr_log.specs.Parts.{Part, head_line, ranks_line, group_line, size_line, program_bytes, rank_line, entry_part, end_line, part_line, part_text, parts_text, lists_parts}
+use Rattle.srr_log.specs.EntryText.{each_after}
+use Rattle.srr_log.specs.Parts.{LogPart, head_line, ranks_line, group_line, size_line, program_bytes, rank_line, entry_part, end_line, part_line, part_text, parts_text, lists_parts, line}
 use Rattle.srr_log.specs.Faults.{IsWhole, HasNoEnd, IsReason}
-use Rattle.srr_log.specs.Pieces.{◌>>=◌, Gives}
-use Rattle.srr_log.specs.LineReading.{ranks_line_in, group_line_in, size_line_in, rank_line_in, entry_line_in}
-use Rattle.srr_log.specs.Reading.{State, at_head, at_ranks, at_group, at_size, at_program, at_list, at_entry, at_end, entries_left, Allows, next, after, Runs, expected, IsOpen, FaultAt, FaultFrom, Reads, IsNextLine}
-use Rattle.srr_log.specs.Refused.{refused}
+use Rattle.srr_log.specs.inside.Pieces.{◌>>=◌, GivesPiece}
+use Rattle.srr_log.specs.inside.LineReading.{ranks_line_in, group_line_in, size_line_in, rank_line_in, entry_line_in}
+use Rattle.srr_log.specs.inside.Reading.{ReadingState, at_head, at_ranks, at_group, at_size, at_program, at_list, at_entry, at_end, entries_left, Allows, next, after, Runs, expected, IsOpen, FaultAt, FaultFrom, Reads, IsNextLine}
+use Rattle.srr_log.specs.Refused.{line_fault}
 use Rattle.srr_log.proofs.PieceLaws.{some, bind_some, guard_some, same_word}
 use Rattle.srr_log.proofs.NoByteLaws.{NoByte, no_byte_cons, no_byte_nil, no_byte_append, no_byte_decimal, no_byte_behind, no_byte_map, no_line_entry}
 use Rattle.srr_log.proofs.LineLaws.{ranks_line_read, ranks_line_said, group_line_read, group_line_said, size_line_read, size_line_said, rank_line_read, rank_line_said, entry_line_read, entry_line_said}
 
 -- a line is read there
-abbrev pub IsLineState : State → Type 0
+abbrev pub IsLineState : ReadingState → Type 0
 IsLineState (at_program n group size) = ⊥
 IsLineState at_end = ⊥
 IsLineState state = Unit {0}
 
 -- the numbers that are read there fit a byte
-abbrev pub IsSmallState : State → Type 0
+abbrev pub IsSmallState : ReadingState → Type 0
 IsSmallState (at_group n) = n ≤ 256
 IsSmallState (at_list n group (rank ∷ ranks)) = rank ≤ 255
 IsSmallState (at_entry n group others ranks) = n ≤ 256
 IsSmallState state = Unit {0}
 
 -- the part of which it is the line
-abbrev pub line_in : State → List ℕ → Option Part
+abbrev pub line_in : ReadingState → List ℕ → Option LogPart
 line_in at_head line = if bytes_eq line (codes "srr 1") then Some head_line else None
 line_in at_ranks line = ranks_line_in line >>= λ ranks. Some (ranks_line ranks)
 line_in (at_group n) line = group_line_in n line >>= λ group. Some (group_line group)
@@ -51,7 +50,7 @@ line_in (at_list n group []) line = if bytes_eq line (codes "end") then Some end
 line_in (at_entry n group others ranks) line = entry_line_in n group others line >>= λ entry. Some (entry_part entry)
 line_in at_end line = None
 
-pub line_read : (state : State) (part : Part) → IsSmallState state → IsLineState state → Allows state part → line_in state (part_line part) ≡ some part
+pub line_read : (state : ReadingState) (part : LogPart) → IsSmallState state → IsLineState state → Allows state part → line_in state (part_line part) ≡ some part
 line_read at_head head_line small is ok = refl
 line_read at_ranks (ranks_line ranks) small is ok = rw (ranks_line_read ranks ok.0 ok.1) refl
 line_read (at_group n) (group_line group) small is ok = rw (group_line_read n group small ok) refl
@@ -65,10 +64,10 @@ line_read at_end part small is ok = absurd is
 line_read state part small is ok = absurd ok
 
 -- a part that may come, and its line
-abbrev pub IsLineOfPart : State → List ℕ → Part → Type 0
+abbrev pub IsLineOfPart : ReadingState → List ℕ → LogPart → Type 0
 IsLineOfPart state line part = Allows state part × (line ≡ part_line part)
 
-pub line_said : (state : State) (line : List ℕ) (part : Part) → line_in state line ≡ some part → IsLineOfPart state line part
+pub line_said : (state : ReadingState) (line : List ℕ) (part : LogPart) → line_in state line ≡ some part → IsLineOfPart state line part
 line_said at_head line part e =
     let g = guard_some (bytes_eq line (codes "srr 1")) head_line part e in
     subst (IsLineOfPart at_head line) g.1 (tt, same_word line (codes "srr 1") g.0)
@@ -115,7 +114,7 @@ plain_word (byte ∷ word) text word_plain none =
     let above = ltb-true 10 byte parts.0 in
     no_byte_cons 10 byte (word ++ text) (λ e. omega arith) (plain_word word text parts.1 none)
 
-pub no_newline : (state : State) (part : Part) → IsLineState state → Allows state part → HasNoNewline (part_line part)
+pub no_newline : (state : ReadingState) (part : LogPart) → IsLineState state → Allows state part → HasNoNewline (part_line part)
 no_newline at_head head_line is ok = plain_word (codes "srr 1") [] refl (no_byte_nil 10)
 no_newline at_ranks (ranks_line ranks) is ok = plain_word (codes "ranks ") (decimal_text ranks) refl (no_byte_decimal 10 ranks (omega arith))
 no_newline (at_group n) (group_line group) is ok =
@@ -132,7 +131,7 @@ no_newline at_end part is ok = absurd is
 no_newline state part is ok = absurd ok
 
 -- an end of a line is the place of its newline
-pub open_line : (state : State) → IsLineState state → IsOpen state
+pub open_line : (state : ReadingState) → IsLineState state → IsOpen state
 open_line at_head is = tt
 open_line at_ranks is = tt
 open_line (at_group n) is = tt
@@ -142,7 +141,7 @@ open_line (at_list n group ranks) is = tt
 open_line (at_entry n group others ranks) is = tt
 open_line at_end is = absurd is
 
-pub line_no_end : (state : State) (rest : List ℕ) → IsLineState state → HasNoNewline rest → HasNoEnd (expected state) rest
+pub line_no_end : (state : ReadingState) (rest : List ℕ) → IsLineState state → HasNoNewline rest → HasNoEnd (expected state) rest
 line_no_end at_head rest is none = none
 line_no_end at_ranks rest is none = none
 line_no_end (at_group n) rest is none = none
@@ -153,7 +152,7 @@ line_no_end (at_list n group (rank ∷ ranks)) rest is none = none
 line_no_end (at_entry n group others ranks) rest is none = none
 line_no_end at_end rest is none = absurd is
 
-pub line_whole : (state : State) (bytes : List ℕ) → IsLineState state → HasNoNewline bytes → IsWhole (expected state) (bytes ++ 10 ∷ [])
+pub line_whole : (state : ReadingState) (bytes : List ℕ) → IsLineState state → HasNoNewline bytes → IsWhole (expected state) (bytes ++ 10 ∷ [])
 line_whole at_head bytes is none = (bytes, none, refl)
 line_whole at_ranks bytes is none = (bytes, none, refl)
 line_whole (at_group n) bytes is none = (bytes, none, refl)
@@ -165,13 +164,13 @@ line_whole (at_entry n group others ranks) bytes is none = (bytes, none, refl)
 line_whole at_end bytes is none = absurd is
 
 -- a fault right there
-pub fault_here : (state : State) (text : List ℕ) (why : LogWhy) (left : ℕ) → FaultAt state text why left → FaultFrom state text why left
+pub fault_here : (state : ReadingState) (text : List ℕ) (why : LogWhy) (left : ℕ) → FaultAt state text why left → FaultFrom state text why left
 fault_here state text why left fault = ([], text, tt, refl, fault)
 
-pub short_line : (state : State) (text : List ℕ) → IsLineState state → HasNoNewline text → FaultFrom state text Short 0
+pub short_line : (state : ReadingState) (text : List ℕ) → IsLineState state → HasNoNewline text → FaultFrom state text Short 0
 short_line state text is none = fault_here state text Short 0 (inl (refl, refl, open_line state is, line_no_end state text is none))
 
-pub bad_line : (state : State) (text bytes rest : List ℕ) (why : LogWhy) → IsLineState state → IsSmallState state → line_in state bytes ≡ None → HasNoNewline bytes → text ≡ bytes ++ 10 ∷ rest
+pub bad_line : (state : ReadingState) (text bytes rest : List ℕ) (why : LogWhy) → IsLineState state → IsSmallState state → line_in state bytes ≡ None → HasNoNewline bytes → text ≡ bytes ++ 10 ∷ rest
     → IsReason (expected state) (bytes ++ 10 ∷ []) why → FaultFrom state text why (length text)
 bad_line state text bytes rest why is small none plain whole reason =
     fault_here state text why (length text) (inr (
@@ -191,24 +190,24 @@ bad_line state text bytes rest why is small none plain whole reason =
     ))
 
 -- parts, and parts after them
-pub runs_append : (state : State) (parts others : List Part) → Runs state parts → Runs (after state parts) others → Runs state (parts ++ others)
+pub runs_append : (state : ReadingState) (parts others : List LogPart) → Runs state parts → Runs (after state parts) others → Runs state (parts ++ others)
 runs_append state [] others run run' = run'
 runs_append state (part ∷ parts) others (ok, run) run' = (ok, runs_append (next state part) parts others run run')
 
-pub after_append : (state : State) (parts others : List Part) → after state (parts ++ others) ≡ after (after state parts) others
+pub after_append : (state : ReadingState) (parts others : List LogPart) → after state (parts ++ others) ≡ after (after state parts) others
 after_append state [] others = refl
 after_append state (part ∷ parts) others = after_append (next state part) parts others
 
-pub runs_split : (state : State) (parts others : List Part) → Runs state (parts ++ others) → Runs state parts × Runs (after state parts) others
+pub runs_split : (state : ReadingState) (parts others : List LogPart) → Runs state (parts ++ others) → Runs state parts × Runs (after state parts) others
 runs_split state [] others run = (tt, run)
 runs_split state (part ∷ parts) others (ok, run) = let both = runs_split (next state part) parts others run in ((ok, both.0), both.1)
 
-pub parts_text-append : (parts others : List Part) (behind : List ℕ) → parts_text (parts ++ others) behind ≡ parts_text parts (parts_text others behind)
+pub parts_text-append : (parts others : List LogPart) (behind : List ℕ) → parts_text (parts ++ others) behind ≡ parts_text parts (parts_text others behind)
 parts_text-append [] others behind = refl
 parts_text-append (part ∷ parts) others behind = ap (line (part_line part)) (parts_text-append parts others behind)
 
 -- a fault after parts that were read is the whole's
-pub fault_behind : (state : State) (parts : List Part) (text rest : List ℕ) (why : LogWhy) (left : ℕ) → Runs state parts → text ≡ parts_text parts rest
+pub fault_behind : (state : ReadingState) (parts : List LogPart) (text rest : List ℕ) (why : LogWhy) (left : ℕ) → Runs state parts → text ≡ parts_text parts rest
     → FaultFrom (after state parts) rest why left → FaultFrom state text why left
 fault_behind state parts text rest why left run is (others, last, run', is', fault) = (
   parts ++ others,
@@ -219,8 +218,8 @@ fault_behind state parts text rest why left run is (others, last, run', is', fau
 )
 
 -- what a line's reader answers
-module _ {A : Type 0} (state : State) (spelled : A → List Part) where
-  pub reads_line : (text bytes rest : List ℕ) (value : A) (part : Part) → spelled value ≡ part ∷ [] → line_in state bytes ≡ some part → text ≡ bytes ++ 10 ∷ rest → Reads state spelled text (Ok value) rest
+module _ {A : Type 0} (state : ReadingState) (spelled : A → List LogPart) where
+  pub reads_line : (text bytes rest : List ℕ) (value : A) (part : LogPart) → spelled value ≡ part ∷ [] → line_in state bytes ≡ some part → text ≡ bytes ++ 10 ∷ rest → Reads state spelled text (Ok value) rest
   reads_line text bytes rest value part one said is =
       let line' = line_said state bytes part said in
       (subst (Runs state) (sym one) (line'.0, tt), is ∙ ap (λ xs. line xs rest) line'.1 ∙ ap (λ parts. parts_text parts rest) (sym one))
@@ -236,25 +235,25 @@ module _ {A : Type 0} (state : State) (spelled : A → List Part) where
       subst (FaultFrom state text why) (sym all) (bad_line state text bytes rest why is small none plain whole reason)
 
 -- what was read after other parts
-module _ {A B : Type 0} (state : State) (parts : List Part) (spelled : A → List Part) (spelled' : B → List Part) where
+module _ {A B : Type 0} (state : ReadingState) (parts : List LogPart) (spelled : A → List LogPart) (spelled' : B → List LogPart) where
   pub reads_behind : (text middle rest rest' : List ℕ) (stop : ReadError) → Runs state parts → text ≡ parts_text parts middle → Reads (after state parts) spelled middle (Err stop) rest → Reads state spelled' text (Err stop) rest'
   reads_behind text middle rest rest' NoMemory run is fault = tt
   reads_behind text middle rest rest' (Fault why left) run is fault = fault_behind state parts text middle why left run is fault
 
 -- a line's reader that may run out of memory
-module _ {A B : Type 0} (state : State) (spelled : A → List Part) where
-  pub reads_unread : (text bytes rest rest' : List ℕ) (why : LogWhy) (left : ℕ) (unread : Unread) (said : Option B) (part_of : B → Part) → IsLineState state → IsSmallState state
-      → line_in state bytes ≡ (said >>= λ value. Some (part_of value)) → Gives (Err unread) said → HasNoNewline bytes → text ≡ bytes ++ 10 ∷ rest
-      → IsReason (expected state) (bytes ++ 10 ∷ []) why → left ≡ length text → Reads state spelled text (Err (refused unread why left)) rest'
+module _ {A B : Type 0} (state : ReadingState) (spelled : A → List LogPart) where
+  pub reads_unread : (text bytes rest rest' : List ℕ) (why : LogWhy) (left : ℕ) (unread : Unread) (said : Option B) (part_of : B → LogPart) → IsLineState state → IsSmallState state
+      → line_in state bytes ≡ (said >>= λ value. Some (part_of value)) → GivesPiece (Err unread) said → HasNoNewline bytes → text ≡ bytes ++ 10 ∷ rest
+      → IsReason (expected state) (bytes ++ 10 ∷ []) why → left ≡ length text → Reads state spelled text (Err (line_fault unread why left)) rest'
   reads_unread text bytes rest rest' why left NotAllowed said part_of is small says none plain whole reason all =
       reads_bad state spelled text bytes rest rest' why left is small (says ∙ rw none refl) plain whole reason all
   reads_unread text bytes rest rest' why left UnreadMemory said part_of is small says none plain whole reason all = tt
 
 -- parts that were read one after the other
-abbrev pub AreRead : State → List Part → List ℕ → List ℕ → Type 0
+abbrev pub AreRead : ReadingState → List LogPart → List ℕ → List ℕ → Type 0
 AreRead state parts text rest = Runs state parts × (text ≡ parts_text parts rest)
 
-pub read_then : (state : State) (parts others : List Part) (text middle rest : List ℕ) → AreRead state parts text middle → AreRead (after state parts) others middle rest → AreRead state (parts ++ others) text rest
+pub read_then : (state : ReadingState) (parts others : List LogPart) (text middle rest : List ℕ) → AreRead state parts text middle → AreRead (after state parts) others middle rest → AreRead state (parts ++ others) text rest
 read_then state parts others text middle rest first second =
     (runs_append state parts others first.0 second.0, first.1 ∙ ap (parts_text parts) second.1 ∙ sym (parts_text-append parts others rest))
 
@@ -266,7 +265,7 @@ pub other_end : (n : ℕ) (group bytes : List ℕ) → bytes ≢ codes "end" →
 other_end n group bytes apart = rw (false_from_ne_true (bytes_eq bytes (codes "end")) (λ same. apart (same_word bytes (codes "end") same))) refl
 
 -- the program's part
-program_part : (n : ℕ) (group : List ℕ) (size : ℕ) (part : Part) → Allows (at_program n group size) part → (program : List ℕ) × (part ≡ program_bytes program) × (length program ≡ size)
+program_part : (n : ℕ) (group : List ℕ) (size : ℕ) (part : LogPart) → Allows (at_program n group size) part → (program : List ℕ) × (part ≡ program_bytes program) × (length program ≡ size)
 program_part n group size (program_bytes program) ok = (program, refl, ok)
 program_part n group size part ok = absurd ok
 
@@ -325,9 +324,9 @@ pub entries_onward : (n : ℕ) (group : List ℕ) (count left : ℕ) (behind tex
 entries_onward n group count left behind text middle rest entries now entry many some' read one grown =
     let here : after (entries_left n group count behind) (map entry_part entries) ≡ at_entry n group (left - 1) behind =
     ap (λ k. after (entries_left n group k behind) (map entry_part entries)) (sym many) ∙ after_entries n group left behind entries ∙ ap (λ k. entries_left n group k behind) (let k : left ≡ suc (left - 1) = omega arith in k) in
-    let P : State → Type 0 = λ s. AreRead s (entry_part entry ∷ []) middle rest in
+    let P : ReadingState → Type 0 = λ s. AreRead s (entry_part entry ∷ []) middle rest in
     let both = read_then (entries_left n group count behind) (map entry_part entries) (entry_part entry ∷ []) text middle rest read (subst P (sym here) one) in
-    let Q : List Part → Type 0 = λ parts. AreRead (entries_left n group count behind) parts text rest in
+    let Q : List LogPart → Type 0 = λ parts. AreRead (entries_left n group count behind) parts text rest in
     subst Q (sym (ap (map entry_part) grown ∙ map-append entry_part entries (entry ∷ []))) both
 
 pub entries_stop : (n : ℕ) (group : List ℕ) (count left : ℕ) (behind text middle rest rest' : List ℕ) (entries : List Entry) (stop : ReadError) → length entries + left ≡ count → 0 < left
@@ -336,7 +335,7 @@ pub entries_stop : (n : ℕ) (group : List ℕ) (count left : ℕ) (behind text 
 entries_stop n group count left behind text middle rest rest' entries stop many some' read one =
     let here : after (entries_left n group count behind) (map entry_part entries) ≡ at_entry n group (left - 1) behind =
     ap (λ k. after (entries_left n group k behind) (map entry_part entries)) (sym many) ∙ after_entries n group left behind entries ∙ ap (λ k. entries_left n group k behind) (let k : left ≡ suc (left - 1) = omega arith in k) in
-    let P : State → Type 0 = λ s. Reads s (λ entry. entry_part entry ∷ []) middle (Err stop) rest in
+    let P : ReadingState → Type 0 = λ s. Reads s (λ entry. entry_part entry ∷ []) middle (Err stop) rest in
     reads_behind (entries_left n group count behind) (map entry_part entries) (λ entry. entry_part entry ∷ []) (λ entries. map entry_part entries) text middle rest rest' stop read.0 read.1 (subst P (sym here) one)
 
 -- one list more
@@ -368,9 +367,9 @@ pub lists_onward : (n : ℕ) (group text middle rest : List ℕ) (lists now : Li
 lists_onward n group text middle rest lists now entries index many within read one grown =
     let here : after (at_list n group group) (lists_parts group lists []) ≡ at_list n group (slice_index group index ∷ drop (index + 1) group) =
     after_lists n group group lists (omega arith) ∙ ap (at_list n group) (ap (λ k. drop k group) many ∙ drop_more group index 0 within) in
-    let P : State → Type 0 = λ s. AreRead s (rank_line (slice_index group index) (length entries) ∷ map entry_part entries) middle rest in
+    let P : ReadingState → Type 0 = λ s. AreRead s (rank_line (slice_index group index) (length entries) ∷ map entry_part entries) middle rest in
     let both = read_then (at_list n group group) (lists_parts group lists []) (rank_line (slice_index group index) (length entries) ∷ map entry_part entries) text middle rest read (subst P (sym here) one) in
-    let Q : List Part → Type 0 = λ parts. AreRead (at_list n group group) parts text rest in
+    let Q : List LogPart → Type 0 = λ parts. AreRead (at_list n group group) parts text rest in
     subst Q (sym (ap (λ ls. lists_parts group ls []) grown ∙ lists_snoc group lists entries (omega arith)
     ∙ ap (λ k. lists_parts group lists [] ++ (rank_line (slice_index group k) (length entries) ∷ map entry_part entries)) many)) both
 
@@ -381,7 +380,7 @@ pub lists_stop : (n : ℕ) (group text middle rest rest' : List ℕ) (lists : Li
 lists_stop n group text middle rest rest' lists index stop many within read one =
     let here : after (at_list n group group) (lists_parts group lists []) ≡ at_list n group (slice_index group index ∷ drop (index + 1) group) =
     after_lists n group group lists (omega arith) ∙ ap (at_list n group) (ap (λ k. drop k group) many ∙ drop_more group index 0 within) in
-    let P : State → Type 0 = λ s. Reads s (λ entries. rank_line (slice_index group index) (length entries) ∷ map entry_part entries) middle (Err stop) rest in
+    let P : ReadingState → Type 0 = λ s. Reads s (λ entries. rank_line (slice_index group index) (length entries) ∷ map entry_part entries) middle (Err stop) rest in
     reads_behind (at_list n group group) (lists_parts group lists []) (λ entries. rank_line (slice_index group index) (length entries) ∷ map entry_part entries) (λ lists. lists_parts group lists []) text middle rest rest' stop read.0 read.1 (subst P (sym here) one)
 
 pub no_lists_read : (n : ℕ) (group ranks text : List ℕ) → AreRead (at_list n group ranks) (lists_parts ranks [] []) text text

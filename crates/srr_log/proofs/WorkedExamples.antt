@@ -7,11 +7,11 @@ use Rattle.srr_entry.specs.declared.entry.Entry.TheVariants.{Sent, Posted, Ended
 use Rattle.srr_entry.specs.declared.log.Log.{Log}
 use Rattle.wiz_base.specs.Decimals.{decimal_text}
 use Rattle.srr_log.specs.declared.fault.LogWhy.TheVariants.{Short, Extra, BadVersion}
-use Rattle.srr_text.specs.LogText.{log_text}
-use Rattle.srr_text.specs.Bounds.{IsList, IsInBounds}
-use Rattle.srr_log.specs.Parts.{Part, head_line, ranks_line, group_line, size_line, program_bytes, rank_line, entry_part, end_line, part_text, log_parts}
-use Rattle.srr_log.specs.Faults.{SomeLog, IsFirstFault}
-use Rattle.srr_log.specs.Reading.{at_head, Allows}
+use Rattle.srr_log.specs.LogText.{log_text}
+use Rattle.srr_log.specs.Bounds.{IsList, IsInBounds}
+use Rattle.srr_log.specs.Parts.{LogPart, head_line, ranks_line, group_line, size_line, program_bytes, rank_line, entry_part, end_line, part_text, log_parts}
+use Rattle.srr_log.specs.Faults.{SomeLog, IsFirstPartFault}
+use Rattle.srr_log.specs.inside.Reading.{at_head, Allows}
 use Rattle.srr_log.proofs.LogLaws.{went_on}
 
 abbrev first_program : List ℕ
@@ -46,12 +46,12 @@ some_small : SomeLog (head_line ∷ ranks_line 1 ∷ group_line (0 ∷ []) ∷ s
 some_small = (small, small_in_bounds, refl)
 
 -- a byte after it
-extra : IsFirstFault (codes "srr 1\nranks 1\ngroup 0\nprogram 0\n\nrank 0 1\nz\nend\n\n") (record { at = 48; why = Extra })
+extra : IsFirstPartFault (codes "srr 1\nranks 1\ngroup 0\nprogram 0\n\nrank 0 1\nz\nend\n\n") (record { at = 48; why = Extra })
 unfolding decimal_text
 extra = (log_parts small, codes "\n", refl, inr (refl, inl (refl, some_small, λ e. absurd (cc (e)))))
 
 -- its second line without an end
-short : IsFirstFault (codes "srr 1\nrank") (record { at = 10; why = Short })
+short : IsFirstPartFault (codes "srr 1\nrank") (record { at = 10; why = Short })
 short = (
   head_line ∷ [],
   codes "rank",
@@ -69,11 +69,11 @@ short = (
 )
 
 -- another version
-head_alone : (part : Part) → Allows at_head part → part_text part ≢ codes "srr 2\n"
+head_alone : (part : LogPart) → Allows at_head part → part_text part ≢ codes "srr 2\n"
 head_alone head_line ok e = let f : ◌≡◌ {A = ℕ} 49 50 = ap (λ (xs : List ℕ). slice_index xs 4) e in omega (arith, f)
 head_alone part ok e = absurd ok
 
-version : IsFirstFault (codes "srr 2\n") (record { at = 0; why = BadVersion })
+version : IsFirstPartFault (codes "srr 2\n") (record { at = 0; why = BadVersion })
 unfolding decimal_text
 version = (
   [],

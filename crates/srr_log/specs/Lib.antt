@@ -1,7 +1,8 @@
+pub mod EntryText
+pub mod Bounds
+pub mod FaultNumbers
 pub mod Parts
+pub mod LogText
 pub mod Faults
-pub mod Pieces
-pub mod EntryReading
-pub mod LineReading
-pub mod Reading
 pub mod Refused
+pub mod inside

@@ -9,9 +9,9 @@ use Rattle.srr_log.specs.declared.read_error.Unread.TheVariants.{NotAllowed, NoM
 use Rattle.srr_log.specs.Faults.{no_memory}
 
 -- the fault of a line that says nothing that is allowed, at its first byte
-abbrev pub refused : Unread → LogWhy → ℕ → ReadError
-refused NotAllowed why left = Fault why left
-refused UnreadMemory why left = NoMemory
+abbrev pub line_fault : Unread → LogWhy → ℕ → ReadError
+line_fault NotAllowed why left = Fault why left
+line_fault UnreadMemory why left = NoMemory
 
 -- the fault's place is in a text of that length
 abbrev pub IsWithin : ReadError → ℕ → Type 0

@@ -1,21 +1,22 @@
 //! Reading an entry's line.
 ghost use Rattle.std.specs.Prelude.{◌≡◌, ◌++◌, ◌∷◌, []};
-ghost use Rattle.srr_log.specs.EntryReading.{all_items_in, detail_in, detailed_in, entry_in, fault_of, halt_in, item_in, items_in, long_entry_in, named_in, peek_in};
-ghost use Rattle.srr_log.specs.Pieces.{Adds, Gives};
+ghost use Rattle.srr_log.specs.inside.EntryReading.{all_items_in, detail_in, detailed_in, entry_in, halt_in, item_in, items_in, long_entry_in, named_in, peek_in};
+ghost use Rattle.srr_log.specs.inside.Pieces.{Adds, GivesPiece};
 
+use crate::fault_numbers::fault_numbered;
+use crate::limits::GREATEST_NUMBER;
 use crate::mark::{inside, mark, outside};
 use crate::pieces::{behind, int, number, rank, split_once};
 use crate::read_error::Unread;
-use mpi_call::call::{Fault, Halt};
+use mpi_call::call::Halt;
 use mpi_call::limits::MOST_INTS;
 use srr_entry::entry::{Entry, Marked, MarkedItems, do_indices_rise};
-use srr_text::limits::GREATEST_NUMBER;
 use std::alloc::Global;
 
 /// The entry whose line it is, within the bounds of a log of so many ranks and of this group.
-#[tactic(auto, unfolding(crate::specs::EntryReading::entry_in))]
+#[tactic(auto, unfolding(crate::specs::inside::EntryReading::entry_in))]
 pub fn entry(alloc: Global, line: &[u8], ranks: u8, group: &[u8]) -> Result<Entry, Unread>
-    ensures { Gives result (entry_in ranks group.now line.now) }
+    ensures { GivesPiece result (entry_in ranks group.now line.now) }
 {
     match line {
         [b's'] => Ok(Entry::Sent),
@@ -28,9 +29,9 @@ pub fn entry(alloc: Global, line: &[u8], ranks: u8, group: &[u8]) -> Result<Entr
 }
 
 /// An entry whose line has more than one letter.
-#[tactic(auto, unfolding(crate::specs::EntryReading::long_entry_in))]
+#[tactic(auto, unfolding(crate::specs::inside::EntryReading::long_entry_in))]
 fn long_entry(alloc: Global, line: &[u8], ranks: u8, group: &[u8]) -> Result<Entry, Unread>
-    ensures { Gives result (long_entry_in ranks group.now line.now) }
+    ensures { GivesPiece result (long_entry_in ranks group.now line.now) }
 {
     if let Some(listed) = behind(line, b"t ") {
         let items = items(alloc, listed, ranks, group)?;
@@ -49,9 +50,9 @@ fn long_entry(alloc: Global, line: &[u8], ranks: u8, group: &[u8]) -> Result<Ent
 }
 
 /// Completed starts, with blanks between; the indices rise.
-#[tactic(auto, unfolding(crate::specs::EntryReading::items_in))]
+#[tactic(auto, unfolding(crate::specs::inside::EntryReading::items_in))]
 fn items(alloc: Global, text: &[u8], ranks: u8, group: &[u8]) -> Result<MarkedItems, Unread>
-    ensures { Gives result (items_in ranks group.now text.now) }
+    ensures { GivesPiece result (items_in ranks group.now text.now) }
 {
     let items = all_items(alloc, text, ranks, group)?;
     if do_indices_rise(items.as_slice()) {
@@ -62,7 +63,7 @@ fn items(alloc: Global, text: &[u8], ranks: u8, group: &[u8]) -> Result<MarkedIt
 }
 
 fn all_items(alloc: Global, text: &[u8], ranks: u8, group: &[u8]) -> Result<MarkedItems, Unread>
-    ensures { Gives result (all_items_in ranks group.now text.now) }
+    ensures { GivesPiece result (all_items_in ranks group.now text.now) }
 {
     let mut found = MarkedItems::new(alloc);
     let mut rest = text;
@@ -94,9 +95,9 @@ fn add_item(
 }
 
 /// A completed start: its index in the call's list, and its mark.
-#[tactic(auto, unfolding(crate::specs::EntryReading::item_in))]
+#[tactic(auto, unfolding(crate::specs::inside::EntryReading::item_in))]
 fn item(alloc: Global, text: &[u8], ranks: u8, group: &[u8]) -> Result<Marked, Unread>
-    ensures { Gives result (item_in ranks group.now text.now) }
+    ensures { GivesPiece result (item_in ranks group.now text.now) }
 {
     let Some((index, kept)) = split_once(text, b'=') else {
         return Err(Unread::NotAllowed);
@@ -109,7 +110,7 @@ fn item(alloc: Global, text: &[u8], ranks: u8, group: &[u8]) -> Result<Marked, U
 }
 
 /// A message that a probe found.
-#[tactic(auto, unfolding(crate::specs::EntryReading::peek_in))]
+#[tactic(auto, unfolding(crate::specs::inside::EntryReading::peek_in))]
 fn peek(text: &[u8], ranks: u8, group: &[u8]) -> Option<Entry>
     ensures { result ≡ peek_in ranks group.now text.now }
 {
@@ -127,7 +128,7 @@ fn peek(text: &[u8], ranks: u8, group: &[u8]) -> Option<Entry>
     })
 }
 
-#[tactic(auto, unfolding(crate::specs::EntryReading::halt_in))]
+#[tactic(auto, unfolding(crate::specs::inside::EntryReading::halt_in))]
 fn halt(text: &[u8], ranks: u8) -> Option<Halt>
     ensures { result ≡ halt_in ranks text.now }
 {
@@ -139,7 +140,7 @@ fn halt(text: &[u8], ranks: u8) -> Option<Halt>
 }
 
 /// A halt that names a rank.
-#[tactic(auto, unfolding(crate::specs::EntryReading::named_in))]
+#[tactic(auto, unfolding(crate::specs::inside::EntryReading::named_in))]
 fn named(text: &[u8], ranks: u8) -> Option<Halt>
     ensures { result ≡ named_in ranks text.now }
 {
@@ -152,7 +153,7 @@ fn named(text: &[u8], ranks: u8) -> Option<Halt>
 }
 
 /// A halt that names a rank and one thing more.
-#[tactic(auto, unfolding(crate::specs::EntryReading::detailed_in))]
+#[tactic(auto, unfolding(crate::specs::inside::EntryReading::detailed_in))]
 fn detailed(kind: &[u8], text: &[u8], ranks: u8) -> Option<Halt>
     ensures { result ≡ detailed_in ranks kind.now text.now }
 {
@@ -161,7 +162,7 @@ fn detailed(kind: &[u8], text: &[u8], ranks: u8) -> Option<Halt>
     detail(kind, rank, other)
 }
 
-#[tactic(auto, unfolding(crate::specs::EntryReading::detail_in))]
+#[tactic(auto, unfolding(crate::specs::inside::EntryReading::detail_in))]
 fn detail(kind: &[u8], rank: u8, text: &[u8]) -> Option<Halt>
     ensures { result ≡ detail_in kind.now rank text.now }
 {
@@ -171,7 +172,7 @@ fn detail(kind: &[u8], rank: u8, text: &[u8]) -> Option<Halt>
             Some(Halt::Aborted { rank, code })
         }
         [b'2'] => {
-            let fault = fault(number(text, 10)?)?;
+            let fault = fault_numbered(number(text, 10)?)?;
             Some(Halt::Trapped { rank, fault })
         }
         [b'3'] => {
@@ -182,26 +183,6 @@ fn detail(kind: &[u8], rank: u8, text: &[u8]) -> Option<Halt>
             let start = number(text, GREATEST_NUMBER)?;
             Some(Halt::BadRequest { rank, start })
         }
-        _ => None,
-    }
-}
-
-/// Faults are numbered from 1.
-#[tactic(auto, unfolding(crate::specs::EntryReading::fault_of))]
-fn fault(number: u32) -> Option<Fault>
-    ensures { result ≡ fault_of number }
-{
-    match number {
-        1 => Some(Fault::DivideByZero),
-        2 => Some(Fault::OutOfBounds),
-        3 => Some(Fault::BadRank),
-        4 => Some(Fault::BadTag),
-        5 => Some(Fault::BadCount),
-        6 => Some(Fault::BadComm),
-        7 => Some(Fault::Budget),
-        8 => Some(Fault::OutputFull),
-        9 => Some(Fault::Depth),
-        10 => Some(Fault::Cells),
         _ => None,
     }
 }

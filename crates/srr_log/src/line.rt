@@ -1,20 +1,20 @@
 //! Reading the lines that are no entries.
 ghost use Rattle.std.specs.Prelude.{◌≡◌, ◌≢◌, ◌++◌, ◌∷◌, [], codes};
-ghost use Rattle.srr_text.specs.Bounds.{is_last};
+ghost use Rattle.srr_log.specs.Bounds.{is_last};
 ghost use Rattle.srr_log.specs.Faults.{IsReason};
-ghost use Rattle.srr_log.specs.LineReading.{entry_line_in, group_line_in, rank_line_in, ranks_line_in, size_line_in};
+ghost use Rattle.srr_log.specs.inside.LineReading.{entry_line_in, group_line_in, rank_line_in, ranks_line_in, size_line_in};
 ghost use Rattle.srr_log.specs.Parts.{head_line};
-ghost use Rattle.srr_log.specs.Pieces.{Gives};
+ghost use Rattle.srr_log.specs.inside.Pieces.{GivesPiece};
 
 use crate::entry_line::entry;
 use crate::fault::LogWhy;
+use crate::limits::{MOST_ENTRIES, MOST_PROGRAM_BYTES};
 use crate::lists::rise;
 use crate::pieces::{behind, number, split_once};
 use crate::read_error::Unread;
 use mpi_call::limits::MOST_RANKS;
 use mpi_call::lists::Ranks;
 use srr_entry::entry::Entry;
-use srr_text::limits::{MOST_ENTRIES, MOST_PROGRAM_BYTES};
 use std::alloc::Global;
 use wiz_base::is_decimal;
 
@@ -36,7 +36,7 @@ pub fn head_fault(line: &[u8]) -> LogWhy
 }
 
 /// How many ranks the run had.
-#[tactic(auto, unfolding(crate::specs::LineReading::ranks_line_in))]
+#[tactic(auto, unfolding(crate::specs::inside::LineReading::ranks_line_in))]
 pub fn ranks_line(line: &[u8]) -> Option<u8>
     ensures { result ≡ ranks_line_in line.now }
 {
@@ -45,9 +45,9 @@ pub fn ranks_line(line: &[u8]) -> Option<u8>
 }
 
 /// The ranks of the group.
-#[tactic(auto, unfolding(crate::specs::LineReading::group_line_in))]
+#[tactic(auto, unfolding(crate::specs::inside::LineReading::group_line_in))]
 pub fn group_line(alloc: Global, line: &[u8], ranks: u8) -> Result<Ranks, Unread>
-    ensures { Gives result (group_line_in ranks line.now) }
+    ensures { GivesPiece result (group_line_in ranks line.now) }
 {
     let Some(listed) = behind(line, b"group ") else {
         return Err(Unread::NotAllowed);
@@ -61,7 +61,7 @@ pub fn group_line(alloc: Global, line: &[u8], ranks: u8) -> Result<Ranks, Unread
 }
 
 /// How many bytes the program has.
-#[tactic(auto, unfolding(crate::specs::LineReading::size_line_in))]
+#[tactic(auto, unfolding(crate::specs::inside::LineReading::size_line_in))]
 pub fn size_line(line: &[u8]) -> Option<u32>
     ensures { result ≡ size_line_in line.now }
 {
@@ -69,7 +69,7 @@ pub fn size_line(line: &[u8]) -> Option<u32>
 }
 
 /// How many entries this rank has.
-#[tactic(auto, unfolding(crate::specs::LineReading::rank_line_in))]
+#[tactic(auto, unfolding(crate::specs::inside::LineReading::rank_line_in))]
 pub fn rank_line(line: &[u8], rank: u8) -> Option<u32>
     ensures { result ≡ rank_line_in rank line.now }
 {
@@ -82,7 +82,7 @@ pub fn rank_line(line: &[u8], rank: u8) -> Option<u32>
 }
 
 /// An entry before so many others: the end and a halt stand only as the last.
-#[tactic(auto, unfolding(crate::specs::LineReading::entry_line_in))]
+#[tactic(auto, unfolding(crate::specs::inside::LineReading::entry_line_in))]
 pub fn entry_line(
     alloc: Global,
     line: &[u8],
@@ -90,7 +90,7 @@ pub fn entry_line(
     group: &[u8],
     others: u32,
 ) -> Result<Entry, Unread>
-    ensures { Gives result (entry_line_in ranks group.now others line.now) }
+    ensures { GivesPiece result (entry_line_in ranks group.now others line.now) }
 {
     let entry = entry(alloc, line, ranks, group)?;
     if is_last(&entry) && others > 0 {

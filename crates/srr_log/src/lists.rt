@@ -1,8 +1,8 @@
 //! Lists within a line, a mark between each two elements.
 ghost use Rattle.std.specs.Prelude.{◌≡◌, ◌++◌, ◌∷◌, [], IsTrue, OnOk, length, map};
 ghost use Rattle.mpi_call.specs.Lists.{rises};
-ghost use Rattle.srr_log.specs.EntryReading.{few_ints_in, ints_in, ranks_in};
-ghost use Rattle.srr_log.specs.Pieces.{Adds, Gives, int_in, rank_in};
+ghost use Rattle.srr_log.specs.inside.EntryReading.{few_ints_in, ints_in, ranks_in};
+ghost use Rattle.srr_log.specs.inside.Pieces.{Adds, GivesPiece, int_in, rank_in};
 
 use crate::pieces::{int, rank, split_once};
 use crate::read_error::Unread;
@@ -10,9 +10,9 @@ use mpi_call::lists::{Ints, Ranks};
 use std::alloc::{AllocError, Global};
 
 /// Ints with commas between, at most this many; none is no byte.
-#[tactic(auto, unfolding(crate::specs::EntryReading::few_ints_in))]
+#[tactic(auto, unfolding(crate::specs::inside::EntryReading::few_ints_in))]
 pub fn few_ints(alloc: Global, text: &[u8], most: usize) -> Result<Ints, Unread>
-    ensures { Gives result (few_ints_in most text.now) }
+    ensures { GivesPiece result (few_ints_in most text.now) }
 {
     if text.is_empty() {
         return Ok(Ints::new(alloc));
@@ -26,7 +26,7 @@ pub fn few_ints(alloc: Global, text: &[u8], most: usize) -> Result<Ints, Unread>
 }
 
 fn ints(alloc: Global, text: &[u8]) -> Result<Ints, Unread>
-    ensures { Gives result (ints_in text.now) }
+    ensures { GivesPiece result (ints_in text.now) }
 {
     let mut found = Ints::new(alloc);
     let mut rest = text;
@@ -52,7 +52,7 @@ fn add_int(found: &mut Ints, piece: &[u8]) -> Result<(), Unread>
 
 /// Ranks of the run with such marks between.
 pub fn ranks(alloc: Global, text: &[u8], mark: u8, ranks: u8) -> Result<Ranks, Unread>
-    ensures { Gives result (ranks_in mark ranks text.now) }
+    ensures { GivesPiece result (ranks_in mark ranks text.now) }
 {
     let mut found = Ranks::new(alloc);
     let mut rest = text;

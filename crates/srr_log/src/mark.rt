@@ -1,18 +1,18 @@
 //! Reading marks: what a completed start gave.
 ghost use Rattle.std.specs.Prelude.{◌≡◌};
-ghost use Rattle.srr_log.specs.EntryReading.{inside_in, long_mark_in, made_in, mark_in, message_in, outside_in};
-ghost use Rattle.srr_log.specs.Pieces.{Gives};
+ghost use Rattle.srr_log.specs.inside.EntryReading.{inside_in, long_mark_in, made_in, mark_in, message_in, outside_in};
+ghost use Rattle.srr_log.specs.inside.Pieces.{GivesPiece};
 
+use crate::limits::GREATEST_NUMBER;
 use crate::lists::few_ints;
 use crate::pieces::{behind, number, rank, split_once};
 use crate::read_error::Unread;
 use mpi_call::limits::{GREATEST_TAG, MOST_INTS, MOST_RANKS, MOST_RESULT_INTS};
 use srr_entry::entry::Mark;
-use srr_text::limits::GREATEST_NUMBER;
 use std::alloc::Global;
 
 /// The name of a message from inside the group.
-#[tactic(auto, unfolding(crate::specs::EntryReading::inside_in))]
+#[tactic(auto, unfolding(crate::specs::inside::EntryReading::inside_in))]
 pub fn inside(text: &[u8], ranks: u8, group: &[u8]) -> Option<(u8, u32)>
     ensures { result ≡ inside_in ranks group.now text.now }
 {
@@ -27,7 +27,7 @@ pub fn inside(text: &[u8], ranks: u8, group: &[u8]) -> Option<(u8, u32)>
 }
 
 /// The name of a message from outside, and its tag.
-#[tactic(auto, unfolding(crate::specs::EntryReading::outside_in))]
+#[tactic(auto, unfolding(crate::specs::inside::EntryReading::outside_in))]
 pub fn outside(text: &[u8], ranks: u8, group: &[u8]) -> Option<(u8, u32, u32)>
     ensures { result ≡ outside_in ranks group.now text.now }
 {
@@ -43,9 +43,9 @@ pub fn outside(text: &[u8], ranks: u8, group: &[u8]) -> Option<(u8, u32, u32)>
     }
 }
 
-#[tactic(auto, unfolding(crate::specs::EntryReading::mark_in))]
+#[tactic(auto, unfolding(crate::specs::inside::EntryReading::mark_in))]
 pub fn mark(alloc: Global, text: &[u8], ranks: u8, group: &[u8]) -> Result<Mark, Unread>
-    ensures { Gives result (mark_in ranks group.now text.now) }
+    ensures { GivesPiece result (mark_in ranks group.now text.now) }
 {
     match text {
         [b's'] => Ok(Mark::Sent),
@@ -56,9 +56,9 @@ pub fn mark(alloc: Global, text: &[u8], ranks: u8, group: &[u8]) -> Result<Mark,
 }
 
 /// A mark of more than one letter.
-#[tactic(auto, unfolding(crate::specs::EntryReading::long_mark_in))]
+#[tactic(auto, unfolding(crate::specs::inside::EntryReading::long_mark_in))]
 fn long_mark(alloc: Global, text: &[u8], ranks: u8, group: &[u8]) -> Result<Mark, Unread>
-    ensures { Gives result (long_mark_in ranks group.now text.now) }
+    ensures { GivesPiece result (long_mark_in ranks group.now text.now) }
 {
     if let Some(outer) = behind(text, b"c:") {
         let ints = few_ints(alloc, outer, MOST_RESULT_INTS as usize)?;
@@ -71,9 +71,9 @@ fn long_mark(alloc: Global, text: &[u8], ranks: u8, group: &[u8]) -> Result<Mark
 }
 
 /// A new communicator: its number, and after a colon its members.
-#[tactic(auto, unfolding(crate::specs::EntryReading::made_in))]
+#[tactic(auto, unfolding(crate::specs::inside::EntryReading::made_in))]
 fn made(alloc: Global, text: &[u8], ranks: u8) -> Result<Mark, Unread>
-    ensures { Gives result (made_in ranks text.now) }
+    ensures { GivesPiece result (made_in ranks text.now) }
 {
     let Some((comm, listed)) = split_once(text, b':') else {
         let Some(comm) = number(text, GREATEST_NUMBER) else {
@@ -93,9 +93,9 @@ fn made(alloc: Global, text: &[u8], ranks: u8) -> Result<Mark, Unread>
 }
 
 /// A message: its name, and after a colon its ints.
-#[tactic(auto, unfolding(crate::specs::EntryReading::message_in))]
+#[tactic(auto, unfolding(crate::specs::inside::EntryReading::message_in))]
 fn message(alloc: Global, text: &[u8], ranks: u8, group: &[u8]) -> Result<Mark, Unread>
-    ensures { Gives result (message_in ranks group.now text.now) }
+    ensures { GivesPiece result (message_in ranks group.now text.now) }
 {
     let Some((name, ints)) = split_once(text, b':') else {
         let Some((source, start)) = inside(text, ranks, group) else {

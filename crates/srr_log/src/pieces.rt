@@ -1,12 +1,12 @@
 //! The pieces of a line, and the numbers that they spell.
 ghost use Rattle.std.specs.Prelude.{◌≡◌, ◌≢◌, ◌<◌, ◌≤◌, ⊤, All, MatchOption, slice_index, take, length};
-ghost use Rattle.srr_log.specs.Pieces.{GivesText, GivesSplit, behind, split_once, int_in, number_in, rank_in};
+ghost use Rattle.srr_log.specs.inside.Pieces.{GivesText, GivesSplit, after_word, split_once, int_in, number_in, rank_in};
 
 use wiz_base::{decimal, number_i64};
 
 /// What comes after a word.
 pub fn behind<'a>(text: &'a [u8], word: &[u8]) -> Option<&'a [u8]>
-    ensures { GivesText result (behind word.now text.now) }
+    ensures { GivesText result (after_word word.now text.now) }
 {
     text.strip_prefix(word)
 }
@@ -48,7 +48,7 @@ pub fn int(text: &[u8]) -> Option<i32>
 }
 
 /// A rank of the run.
-#[tactic(auto, unfolding(crate::specs::Pieces::rank_in))]
+#[tactic(auto, unfolding(crate::specs::inside::Pieces::rank_in))]
 pub fn rank(text: &[u8], ranks: u8) -> Option<u8>
     ensures { result ≡ rank_in ranks text.now }
 {

@@ -1,6 +1,6 @@
 //! Why a text was not read, before the place of the fault is known.
 ghost use Rattle.std.specs.Prelude.{◌≡◌, ◌<◌, ◌^◌, length};
-ghost use Rattle.srr_log.specs.Refused.{IsPlaced, IsWithin, refused};
+ghost use Rattle.srr_log.specs.Refused.{IsPlaced, IsWithin, line_fault};
 
 use crate::fault::{LogFault, LogWhy};
 use std::alloc::AllocError;
@@ -44,7 +44,7 @@ impl From<AllocError> for ReadError {
 
 /// A line that was not read is a fault with this reason.
 pub fn refused(unread: Unread, why: LogWhy, left: usize) -> ReadError
-    ensures { result ≡ refused unread why left }
+    ensures { result ≡ line_fault unread why left }
 {
     match unread {
         Unread::NotAllowed => ReadError::Fault { why, left },

@@ -1,21 +1,22 @@
 //! Reading a log part by part.
-ghost use Rattle.std.specs.Prelude.{◌≡◌, ◌↔◌, ◌<◌, ◌^◌, ◌⊎◌, ◌++◌, ◌∷◌, [], ℕ, List, OnOk, IfOk, IfErr, MatchResult, IsTrue, length, map};
+ghost use Rattle.std.specs.Prelude.{◌≡◌, ◌↔◌, ◌<◌, ◌^◌, ◌⊎◌, ◌++◌, ◌∷◌, [], ℕ, List, IfOk, IfErr, MatchResult, IsTrue, length, map};
 ghost use Rattle.group_plan.specs.OneReading.{HaveOneReading};
 ghost use Rattle.srr_entry.specs.declared.log.Log.{Log};
 ghost use Rattle.srr_log.specs.declared.fault.LogFault.{LogFault};
-ghost use Rattle.srr_text.specs.Bounds.{IsInBounds};
-ghost use Rattle.srr_log.specs.Faults.{IsFirstFault, no_memory};
-ghost use Rattle.srr_text.specs.LogText.{IsLogText, log_text};
-ghost use Rattle.srr_log.specs.Parts.{Part, head_line, ranks_line, group_line, size_line, program_bytes, rank_line, entry_part, end_line, lists_parts, log_parts, parts_text};
-ghost use Rattle.srr_log.specs.Reading.{IsNextLine, Reads, at_end, at_entry, at_group, at_head, at_list, at_program, at_ranks, at_size, entries_left};
+ghost use Rattle.srr_log.specs.Bounds.{IsInBounds};
+ghost use Rattle.srr_log.specs.Faults.{IsFirstPartFault, no_memory};
+ghost use Rattle.srr_log.specs.LogText.{IsLogText, log_text};
+ghost use Rattle.srr_log.specs.Parts.{LogPart, head_line, ranks_line, group_line, size_line, program_bytes, rank_line, entry_part, end_line, lists_parts, log_parts};
+ghost use Rattle.srr_log.specs.inside.Reading.{IsNextLine, Reads, at_end, at_entry, at_group, at_head, at_list, at_program, at_ranks, at_size, entries_left};
 
+use crate::adding::{add_entry, add_list};
 use crate::fault::{LogFault, LogWhy};
 use crate::line;
 use crate::read_error::{ReadError, fault_of, refused};
 use mpi_call::lists::Ranks;
 use srr_entry::entry::Entry;
 use srr_entry::log::{Entries, Lists, Log};
-use std::alloc::{AllocError, Global};
+use std::alloc::Global;
 use wiz_base::{Bytes, Cursor};
 
 /// The next line, without its newline.
@@ -176,13 +177,6 @@ fn entries(
     Ok(entries)
 }
 
-fn add_entry(entries: &mut Entries, entry: Entry) -> Result<(), AllocError>
-    ensures { OnOk result (entries.new ≡ entries.old ++ entry ∷ []) }
-{
-    entries.push(entry)?;
-    Ok(())
-}
-
 /// The list of one rank.
 fn list(
     alloc: Global,
@@ -213,13 +207,6 @@ fn lists(
         add_list(&mut lists, entries)?;
     }
     Ok(lists)
-}
-
-fn add_list(lists: &mut Lists, entries: Entries) -> Result<(), AllocError>
-    ensures { OnOk result (lists.new ≡ lists.old ++ entries ∷ []) }
-{
-    lists.push(entries)?;
-    Ok(())
 }
 
 /// The last line.
@@ -283,10 +270,10 @@ fn read(alloc: Global, text: &[u8]) -> Result<Log, ReadError>
 pub fn read_log(alloc: Global, text: &[u8]) -> Result<Log, LogFault>
     requires { length text.now < 2 ^ 32 }
     ensures log { IfOk result (λ log. IsLogText text.now log) }
-    ensures fault { IfErr result (λ fault. (fault ≡ no_memory) ⊎ IsFirstFault text.now fault) }
+    ensures fault { IfErr result (λ fault. (fault ≡ no_memory) ⊎ IsFirstPartFault text.now fault) }
     ensures only_log { (log : Log) → IsLogText text.now log
         → MatchResult result (λ found. found ≡ log) (λ fault. fault ≡ no_memory) }
-    ensures only_fault { (first : LogFault) → IsFirstFault text.now first
+    ensures only_fault { (first : LogFault) → IsFirstPartFault text.now first
         → MatchResult result (λ _. ⊥) (λ fault. (fault ≡ no_memory) ⊎ (fault ≡ first)) }
 {
     match read(alloc, text) {
@@ -299,6 +286,5 @@ pub fn read_log(alloc: Global, text: &[u8]) -> Result<Log, LogFault>
 pub fn one_reading()
     ensures texts { (log other : Log) (more : List ℕ) → IsInBounds log → IsInBounds other
         → log_text log ++ more ≡ log_text other → (log ≡ other) × (more ≡ []) }
-    ensures logs { HaveOneReading IsLogText IsFirstFault }
-    ensures parts { (log : Log) → log_text log ≡ parts_text (log_parts log) [] }
+    ensures logs { HaveOneReading IsLogText IsFirstPartFault }
 {}

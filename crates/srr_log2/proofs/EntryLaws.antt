@@ -2,10 +2,10 @@
 use Rattle.std.proofs.Common.{◌≡◌, ℕ, suc, ◌+◌, ◌<◌, ◌≤◌, Bool, true, false, List, [], ◌∷◌, ◌++◌, length, refl, ap, ◌∙◌, append_assoc, arith}
 use Rattle.srr_entry.specs.declared.entry.Entry.{Entry}
 use Rattle.srr_entry.specs.declared.entry.Entry.TheVariants.{Sent, Posted, Entered, Ended, Took, NotYet, PeekedInside, PeekedOutside, Stopped}
-use Rattle.srr_text.specs.Bounds.{IsEntry, AreEntries, is_last}
+use Rattle.srr_log.specs.Bounds.{IsEntry, AreEntries, is_last}
 use Rattle.srr_log2.specs.EntryBytes.{is_not_yet, not_yets, record_bytes, records_bytes}
 use Rattle.srr_log2.specs.Fields.{reads, onward, ◌>>=◌, give}
-use Rattle.srr_log2.specs.EntryReading.{record_in, entries_in}
+use Rattle.srr_log2.specs.EntryReading.{coded_record, coded_entries}
 
 -- so many more entries than the record's own are counted by it
 abbrev pub more_of : Entry → ℕ → ℕ
@@ -19,7 +19,7 @@ if_counted false more = 0
 
 module _ (n : ℕ) (group : List ℕ)
     (record_written : (counted : Bool) (entry : Entry) (more others : ℕ) (rest : List ℕ) → others < 4294967295 → IsEntry n group entry → (is_last entry ≡ true → others ≡ 0) → (is_not_yet entry ≡ true → (counted ≡ false) × (more ≤ others))
-    → record_in n group counted others (record_bytes entry more ++ rest) ≡ reads (entry, more_of entry more) rest) where
+    → coded_record n group counted others (record_bytes entry more ++ rest) ≡ reads (entry, more_of entry more) rest) where
   few : (entries : List Entry) → not_yets entries ≤ length entries
   few [] = omega arith
   few (NotYet ∷ entries) = let f = few entries in omega arith
@@ -34,18 +34,18 @@ module _ (n : ℕ) (group : List ℕ)
 
   -- the entry's own record, and then the others
   own_record : (counted : Bool) (entry : Entry) (entries : List Entry) (rest : List ℕ) → length entries < 4294967295 → IsEntry n group entry → (is_last entry ≡ true → entries ≡ []) → (is_not_yet entry ≡ true → counted ≡ false)
-      → entries_in n group (is_not_yet entry) (more_of entry (not_yets entries)) (length entries) (records_bytes (is_not_yet entry) entries ++ rest) ≡ reads entries rest
-      → entries_in n group counted 0 (length (entry ∷ entries)) ((record_bytes entry (not_yets entries) ++ records_bytes (is_not_yet entry) entries) ++ rest) ≡ reads (entry ∷ entries) rest
+      → coded_entries n group (is_not_yet entry) (more_of entry (not_yets entries)) (length entries) (records_bytes (is_not_yet entry) entries ++ rest) ≡ reads entries rest
+      → coded_entries n group counted 0 (length (entry ∷ entries)) ((record_bytes entry (not_yets entries) ++ records_bytes (is_not_yet entry) entries) ++ rest) ≡ reads (entry ∷ entries) rest
   own_record counted entry entries rest short ok last fresh others =
       let behind = records_bytes (is_not_yet entry) entries ++ rest in
       let first = record_written counted entry (not_yets entries) (length entries) behind short ok (λ e. ap length (last e)) (λ e. (fresh e, few entries)) in
       rw (append_assoc (record_bytes entry (not_yets entries)) (records_bytes (is_not_yet entry) entries) rest)
-      (ap (λ o. onward o (λ v. entries_in n group (is_not_yet v.0) v.1 (length entries) >>= λ values. give (v.0 ∷ values))) first
+      (ap (λ o. onward o (λ v. coded_entries n group (is_not_yet v.0) v.1 (length entries) >>= λ values. give (v.0 ∷ values))) first
       ∙ ap (λ o. onward o (λ values. give (entry ∷ values))) others)
 
   -- the first ones that found nothing are counted by the record before, where that is of their kind
   pub entries_written : (counted : Bool) (entries : List Entry) (rest : List ℕ) → length entries < 4294967296 → AreEntries n group entries
-      → entries_in n group counted (if_counted counted (not_yets entries)) (length entries) (records_bytes counted entries ++ rest) ≡ reads entries rest
+      → coded_entries n group counted (if_counted counted (not_yets entries)) (length entries) (records_bytes counted entries ++ rest) ≡ reads entries rest
   entries_written false [] rest short ok = refl
   entries_written true [] rest short ok = refl
   entries_written true (NotYet ∷ entries) rest short ok =

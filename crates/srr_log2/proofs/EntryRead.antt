@@ -2,10 +2,10 @@
 use Rattle.std.proofs.Common.{◌≡◌, ℕ, zero, suc, ◌≤◌, Bool, true, false, List, [], ◌∷◌, ◌++◌, length, refl, sym, ap, subst, ◌∙◌, append_assoc, arith}
 use Rattle.srr_entry.specs.declared.entry.Entry.{Entry}
 use Rattle.srr_entry.specs.declared.entry.Entry.TheVariants.{Sent, Posted, Entered, Ended, Took, NotYet, PeekedInside, PeekedOutside, Stopped}
-use Rattle.srr_text.specs.Bounds.{IsEntry, AreEntries, is_last}
+use Rattle.srr_log.specs.Bounds.{IsEntry, AreEntries, is_last}
 use Rattle.srr_log2.specs.EntryBytes.{is_not_yet, not_yets, record_bytes, records_bytes}
 use Rattle.srr_log2.specs.Fields.{reads, ◌>>=◌, give}
-use Rattle.srr_log2.specs.EntryReading.{record_in, entries_in}
+use Rattle.srr_log2.specs.EntryReading.{coded_record, coded_entries}
 use Rattle.srr_log2.proofs.FieldLaws.{onward_reads, given}
 use Rattle.srr_log2.proofs.EntryLaws.{if_counted}
 
@@ -81,7 +81,7 @@ same_record (PeekedOutside source start tag count) more entries is = refl
 same_record (Stopped halt) more entries is = refl
 
 module _ (n : ℕ) (group : List ℕ)
-    (record_read : (counted : Bool) (others : ℕ) (text middle : List ℕ) (first : Entry × ℕ) → record_in n group counted others text ≡ reads first middle → WasRecord n group counted others text middle first.0 first.1) where
+    (record_read : (counted : Bool) (others : ℕ) (text middle : List ℕ) (first : Entry × ℕ) → coded_record n group counted others text ≡ reads first middle → WasRecord n group counted others text middle first.0 first.1) where
   alone_fits : (entry : Entry) (more others : ℕ) → (is_not_yet entry ≡ true → more ≤ others) → (is_not_yet entry ≡ false → more ≡ 0) → (more ≤ others) × (is_not_yet entry ≡ false → more ≡ 0)
   alone_fits Sent more others fits alone = (let no = alone refl in omega arith, alone)
   alone_fits Posted more others fits alone = (let no = alone refl in omega arith, alone)
@@ -94,13 +94,13 @@ module _ (n : ℕ) (group : List ℕ)
   alone_fits (Stopped halt) more others fits alone = (let no = alone refl in omega arith, alone)
 
   pub entries_read : (counted : Bool) (more left : ℕ) (text rest : List ℕ) (entries : List Entry) → (counted ≡ false → more ≡ 0) → more ≤ left
-      → entries_in n group counted more left text ≡ reads entries rest → WereEntries n group counted more left text rest entries
+      → coded_entries n group counted more left text ≡ reads entries rest → WereEntries n group counted more left text rest entries
   entries_read false more zero text rest entries free fits e =
       let g = given {A = List Entry} [] entries text rest (nothing false more text e) in
       let P : List Entry → Type 0 = λ es. WereEntries n group false more 0 text rest es in
       subst P g.0 record { written = g.1; ok = tt; many = refl; before = sym (free refl) }
     where
-      nothing : (c : Bool) (m : ℕ) (t : List ℕ) → entries_in n group c m 0 t ≡ reads entries rest → give [] t ≡ reads entries rest
+      nothing : (c : Bool) (m : ℕ) (t : List ℕ) → coded_entries n group c m 0 t ≡ reads entries rest → give [] t ≡ reads entries rest
       nothing c zero t e = e
       nothing c (suc m) t e = e
   entries_read true more zero text rest entries free fits e =
@@ -108,12 +108,12 @@ module _ (n : ℕ) (group : List ℕ)
       let P : List Entry → Type 0 = λ es. WereEntries n group true more 0 text rest es in
       subst P g.0 record { written = g.1; ok = tt; many = refl; before = omega arith }
     where
-      nothing : (c : Bool) (m : ℕ) (t : List ℕ) → entries_in n group c m 0 t ≡ reads entries rest → give [] t ≡ reads entries rest
+      nothing : (c : Bool) (m : ℕ) (t : List ℕ) → coded_entries n group c m 0 t ≡ reads entries rest → give [] t ≡ reads entries rest
       nothing c zero t e = e
       nothing c (suc m) t e = e
   entries_read false (suc more) (suc left) text rest entries free fits e = let no = free refl in absurd (omega arith)
   entries_read true (suc more) (suc left) text rest entries free fits e =
-      let a = onward_reads (entries_in n group true more left text) (λ es. give (NotYet ∷ es)) entries rest e in
+      let a = onward_reads (coded_entries n group true more left text) (λ es. give (NotYet ∷ es)) entries rest e in
       let g = given (NotYet ∷ a.0) entries a.1 rest a.3 in
       let ih = entries_read true more left text a.1 a.0 (λ no. absurd cc) (omega arith) a.2 in
       let P : List Entry → Type 0 = λ es. WereEntries n group true (suc more) (suc left) text rest es in
@@ -124,9 +124,9 @@ module _ (n : ℕ) (group : List ℕ)
         before = let b = ih.before in omega arith;
       }
   entries_read counted zero (suc left) text rest entries free fits e =
-      let a = onward_reads (record_in n group counted left text) (λ v. entries_in n group (is_not_yet v.0) v.1 left >>= λ values. give (v.0 ∷ values)) entries rest e in
+      let a = onward_reads (coded_record n group counted left text) (λ v. coded_entries n group (is_not_yet v.0) v.1 left >>= λ values. give (v.0 ∷ values)) entries rest e in
       let r = record_read counted left text a.1 a.0 a.2 in
-      let b = onward_reads (entries_in n group (is_not_yet a.0.0) a.0.1 left a.1) (λ values. give (a.0.0 ∷ values)) entries rest a.3 in
+      let b = onward_reads (coded_entries n group (is_not_yet a.0.0) a.0.1 left a.1) (λ values. give (a.0.0 ∷ values)) entries rest a.3 in
       let g = given (a.0.0 ∷ b.0) entries b.1 rest b.3 in
       let fit = alone_fits a.0.0 a.0.1 left (λ yes. (r.fresh yes).1) r.alone in
       let ih = entries_read (is_not_yet a.0.0) a.0.1 left a.1 b.1 b.0 fit.1 fit.0 b.2 in

@@ -14,7 +14,7 @@ use Rattle.srr_log.specs.declared.fault.LogWhy.{LogWhy}
 use Rattle.srr_log.specs.declared.fault.LogWhy.TheVariants.{Short}
 use Rattle.srr_log2.specs.EntryBytes.{word_bytes}
 use Rattle.srr_log2.specs.EntryReading.{between}
-use Rattle.srr_log2.specs.Fields.{Outcome, reads, stops, Reader, onward, give, allowed, byte_in, field_in, number_of, word_in, only_if}
+use Rattle.srr_log2.specs.Fields.{Outcome, reads, stops, Reader, onward, give, allowed, coded_byte, coded_field, number_of, coded_word, only_if}
 
 abbrev pub some : {A : Type 0} → A → Option A
 some x = Some x
@@ -37,19 +37,19 @@ only_if_some false x y e = absurd cc
 
 -- fields of some width
 pub field_here : {A : Type 0} (width : ℕ) (why : List ℕ → LogWhy) (said : List ℕ → Option A) (found rest : List ℕ) → length found ≡ width
-    → field_in width why said (found ++ rest) ≡ allowed (said found) (why found) (length (found ++ rest)) rest
-unfolding field_in
+    → coded_field width why said (found ++ rest) ≡ allowed (said found) (why found) (length (found ++ rest)) rest
+unfolding coded_field
 field_here width why said found rest long =
     let enough : nat_lt (length (found ++ rest)) width ≡ false = le-ltb _ _ (omega (arith, length-append found rest, long)) in
     rw (enough, take_at found rest width long, drop_at found rest width long) refl
 
-pub field_short : {A : Type 0} (width : ℕ) (why : List ℕ → LogWhy) (said : List ℕ → Option A) (text : List ℕ) → length text < width → field_in width why said text ≡ stops Short 0
-unfolding field_in
+pub field_short : {A : Type 0} (width : ℕ) (why : List ℕ → LogWhy) (said : List ℕ → Option A) (text : List ℕ) → length text < width → coded_field width why said text ≡ stops Short 0
+unfolding coded_field
 field_short width why said text short = rw (lt-ltb _ _ short) refl
 
-pub field_reads : {A : Type 0} (width : ℕ) (why : List ℕ → LogWhy) (said : List ℕ → Option A) (text rest : List ℕ) (value : A) → field_in width why said text ≡ reads value rest
+pub field_reads : {A : Type 0} (width : ℕ) (why : List ℕ → LogWhy) (said : List ℕ → Option A) (text rest : List ℕ) (value : A) → coded_field width why said text ≡ reads value rest
     → (found : List ℕ) × (length found ≡ width) × (said found ≡ some value) × (text ≡ found ++ rest)
-unfolding field_in
+unfolding coded_field
 field_reads width why said text rest value e =
     elim (cases_Bool (nat_lt (length text) width)) [
       | inl short ↦
@@ -85,13 +85,13 @@ number_was width number is_allowed found e =
     guarded false x y e = absurd cc
 
 pub word_here : (why : LogWhy) (is_allowed : ℕ → Bool) (number : ℕ) (rest : List ℕ) → number < 4294967296
-    → word_in why is_allowed (word_bytes number ++ rest) ≡ allowed (only_if (is_allowed number) number) why (length (word_bytes number ++ rest)) rest
+    → coded_word why is_allowed (word_bytes number ++ rest) ≡ allowed (only_if (is_allowed number) number) why (length (word_bytes number ++ rest)) rest
 unfolding word_bytes
 word_here why is_allowed number rest small =
     field_here 4 (λ _. why) (number_of 4 is_allowed) (word_bytes number) rest (length-bytes_high_first 4 number)
     ∙ ap (λ said. allowed said why (length (word_bytes number ++ rest)) rest) (number_is 4 number is_allowed small)
 
-pub word_reads : (why : LogWhy) (is_allowed : ℕ → Bool) (text rest : List ℕ) (number : ℕ) → word_in why is_allowed text ≡ reads number rest → (text ≡ word_bytes number ++ rest) × (is_allowed number ≡ true)
+pub word_reads : (why : LogWhy) (is_allowed : ℕ → Bool) (text rest : List ℕ) (number : ℕ) → coded_word why is_allowed text ≡ reads number rest → (text ≡ word_bytes number ++ rest) × (is_allowed number ≡ true)
 unfolding word_bytes
 word_reads why is_allowed text rest number e =
     let f = field_reads 4 (λ _. why) (number_of 4 is_allowed) text rest number e in
@@ -99,10 +99,10 @@ word_reads why is_allowed text rest number e =
     (f.3 ∙ ap (λ xs. xs ++ rest) n.0, n.1)
 
 pub word_written : (why : LogWhy) (is_allowed : ℕ → Bool) (number : ℕ) (rest : List ℕ) → number < 4294967296 → is_allowed number ≡ true
-    → word_in why is_allowed (word_bytes number ++ rest) ≡ reads number rest
+    → coded_word why is_allowed (word_bytes number ++ rest) ≡ reads number rest
 word_written why is_allowed number rest small ok = word_here why is_allowed number rest small ∙ rw ok refl
 
-pub byte_reads : {A : Type 0} (why : LogWhy) (said : ℕ → Option A) (text rest : List ℕ) (value : A) → byte_in why said text ≡ reads value rest → (byte : ℕ) × (text ≡ byte ∷ rest) × (said byte ≡ some value)
+pub byte_reads : {A : Type 0} (why : LogWhy) (said : ℕ → Option A) (text rest : List ℕ) (value : A) → coded_byte why said text ≡ reads value rest → (byte : ℕ) × (text ≡ byte ∷ rest) × (said byte ≡ some value)
 byte_reads why said [] rest value e = absurd cc
 byte_reads why said (byte ∷ text) rest value e = let is = allowed_reads (said byte) why (length text + 1) text rest value e in (byte, ap (λ xs. byte ∷ xs) is.1, is.0)
 
@@ -122,7 +122,7 @@ unfolding word_bytes
 word_found bytes number long fits is = let value : big_number 4 bytes ≡ from_be_bytes w32 bytes = omega arith in sym (be_bytes_4 bytes number long fits (is ∙ value))
 
 pub word_taken : (why : LogWhy) (is_allowed : ℕ → Bool) (bytes rest text : List ℕ) (number left : ℕ) → number < 4294967296 → bytes ≡ word_bytes number → text ≡ bytes ++ rest → left ≡ length text
-    → word_in why is_allowed text ≡ allowed (only_if (is_allowed number) number) why left rest
+    → coded_word why is_allowed text ≡ allowed (only_if (is_allowed number) number) why left rest
 word_taken why is_allowed bytes rest text number left small written whole many =
     let spelled : text ≡ word_bytes number ++ rest = whole ∙ ap (λ xs. xs ++ rest) written in
     rw (many, spelled) (word_here why is_allowed number rest small)

@@ -5,7 +5,7 @@ use Rattle.srr_log.specs.declared.fault.LogFault.{LogFault}
 use Rattle.std.proofs.lemmas.Bool.{cases_Bool}
 use Rattle.srr_log.proofs.FaultLaws as one
 use Rattle.srr_log.proofs.LogOrFault as each
-use Rattle.srr_text.specs.LogText.{IsLogText, log_text}
+use Rattle.srr_log.specs.LogText.{IsLogText, log_text}
 use Rattle.srr_log2.specs.Formats.{IsFaultOfLog, IsTextOfLog, is_format2}
 use Rattle.srr_log2.specs.LogBytes.{AreLogBytes, body_bytes, log_bytes}
 use Rattle.srr_log2.proofs.GroupExact as two

@@ -6,10 +6,10 @@ use Rattle.byteorder.specs.Numbers.{length-bytes_high_first}
 use Rattle.srr_entry.specs.declared.log.Log.{Log}
 use Rattle.srr_log.specs.declared.fault.LogFault.{LogFault}
 use Rattle.srr_log.specs.declared.fault.LogWhy.TheVariants.{BadGroup}
-use Rattle.srr_text.specs.Bounds.{IsGroup, IsInBounds}
+use Rattle.srr_log.specs.Bounds.{IsGroup, IsInBounds}
 use Rattle.srr_log2.specs.LogBytes.{bits_from, group_bytes, log_bytes, AreLogBytes}
-use Rattle.srr_log2.specs.Fields.{reads, give, number_of, field_in}
-use Rattle.srr_log2.specs.Reading.{bits_set, group_in, log_in, IsFirstFault}
+use Rattle.srr_log2.specs.Fields.{reads, give, number_of, coded_field}
+use Rattle.srr_log2.specs.Reading.{bits_set, coded_group, coded_log, IsFirstFieldFault}
 use Rattle.srr_log2.proofs.FieldLaws.{onward_reads, given, field_reads, number_was}
 use Rattle.srr_log2.proofs.TopLaws.{are_bits, group_found}
 use Rattle.srr_log2.proofs.Exact.{IsExact}
@@ -22,16 +22,16 @@ some_bits : (n : ℕ) (group : List ℕ) → IsGroup n group → n ≤ 64 → 0 
 some_bits n [] ok few = let some' = ok.0 in absurd (omega arith)
 some_bits n (rank ∷ ranks) ok few = bits_some 64 0 n rank ranks ok.1 ok.2 (omega arith)
 
-group_written : (n : ℕ) (group rest : List ℕ) → n ≤ 64 → IsGroup n group → group_in n (group_bytes group ++ rest) ≡ reads group rest
+group_written : (n : ℕ) (group rest : List ℕ) → n ≤ 64 → IsGroup n group → coded_group n (group_bytes group ++ rest) ≡ reads group rest
 unfolding group_bytes
 group_written n group rest few ok =
     group_found n (bits_from 64 0 group) group (big_bytes 8 (bits_from 64 0 group)) rest (big_bytes 8 (bits_from 64 0 group) ++ rest) refl refl (length-bytes_high_first 8 (bits_from 64 0 group))
     (bits_small 64 64 0 n group (omega arith) ok.2 (omega arith)) (some_bits n group ok few, bits_small n 64 0 n group few ok.2 (omega arith)) (sym (set_of_bits n 64 0 n group few ok.1 ok.2 (omega arith)))
 
-group_read : (n : ℕ) (text rest group : List ℕ) → n ≤ 64 → group_in n text ≡ reads group rest → (text ≡ group_bytes group ++ rest) × IsGroup n group
-unfolding group_bytes group_in
+group_read : (n : ℕ) (text rest group : List ℕ) → n ≤ 64 → coded_group n text ≡ reads group rest → (text ≡ group_bytes group ++ rest) × IsGroup n group
+unfolding group_bytes coded_group
 group_read n text rest group few e =
-    let a = onward_reads (field_in 8 (λ _. BadGroup) (number_of 8 (are_bits n)) text) (λ bits. give (bits_set n 0 bits)) group rest e in
+    let a = onward_reads (coded_field 8 (λ _. BadGroup) (number_of 8 (are_bits n)) text) (λ bits. give (bits_set n 0 bits)) group rest e in
     let f = field_reads 8 (λ _. BadGroup) (number_of 8 (are_bits n)) text a.1 a.0 a.2 in
     let w = number_was 8 a.0 (are_bits n) f.0 f.2 in
     let p = and_parts _ _ w.1 in
@@ -44,26 +44,26 @@ group_read n text rest group few e =
       (set_some n 0 a.0 small some', set_rises n 0 a.0, set_below n 0 a.0 n (omega arith)),
     )
 
-pub group_exact : (n : ℕ) → 1 ≤ n → n ≤ 64 → IsExact (group_in n) group_bytes (IsGroup n)
+pub group_exact : (n : ℕ) → 1 ≤ n → n ≤ 64 → IsExact (coded_group n) group_bytes (IsGroup n)
 group_exact n some' few = record { written = λ group rest ok. group_written n group rest few ok; read = λ text rest group e. group_read n text rest group few e }
 
-pub log_written : (text : List ℕ) (log : Log) → AreLogBytes text log → log_in text ≡ reads log []
+pub log_written : (text : List ℕ) (log : Log) → AreLogBytes text log → coded_log text ≡ reads log []
 log_written text log is = whole.log_written (body_written group_exact) (body_read group_exact) text log is
 
-pub log_read : (text rest : List ℕ) (log : Log) → log_in text ≡ reads log rest → AreLogBytes text log
+pub log_read : (text rest : List ℕ) (log : Log) → coded_log text ≡ reads log rest → AreLogBytes text log
 log_read text rest log e = whole.log_read (body_written group_exact) (body_read group_exact) text rest log e
 
 pub no_beginning : (log other : Log) (more : List ℕ) → IsInBounds log → IsInBounds other → log_bytes log ++ more ≡ log_bytes other → (log ≡ other) × (more ≡ [])
 no_beginning log other more ok ok' e = whole.no_beginning (body_written group_exact) (body_read group_exact) log other more ok ok' e
 
-pub fault_or_log : (text : List ℕ) (log : Log) (fault : LogFault) → AreLogBytes text log → IsFirstFault text fault → ⊥
+pub fault_or_log : (text : List ℕ) (log : Log) (fault : LogFault) → AreLogBytes text log → IsFirstFieldFault text fault → ⊥
 fault_or_log text log fault is first = never_both text log fault (log_written text log is) first
 
 pub same_log : (text : List ℕ) (log other : Log) → AreLogBytes text log → AreLogBytes text other → log ≡ other
 same_log text log other is is' = one_log text log other (log_written text log is) (log_written text other is')
 
 -- each text has a log or a first fault
-pub either : (text : List ℕ) → ((log : Log) × AreLogBytes text log) ⊎ ((fault : LogFault) × IsFirstFault text fault)
+pub either : (text : List ℕ) → ((log : Log) × AreLogBytes text log) ⊎ ((fault : LogFault) × IsFirstFieldFault text fault)
 either text =
     elim (log_or_fault text) [
       | inl found ↦ inl (found.0, log_read text found.1 found.0 found.2)

@@ -13,9 +13,9 @@ use Rattle.srr_log2.specs.declared.kind.RecordKind.{RecordKind}
 use Rattle.srr_log2.specs.declared.kind.RecordKind.TheVariants.{Sent as SentKind, Posted as PostedKind, Entered as EnteredKind, Ended as EndedKind, Took as TookKind, NotYet as NotYetKind, PeekedInside as PeekedInsideKind, PeekedOutside as PeekedOutsideKind, Stopped as StoppedKind}
 use Rattle.srr_log.specs.declared.read_error.ReadError.{ReadError}
 use Rattle.srr_log.specs.declared.read_error.ReadError.TheVariants.{NoMemory, Fault}
-use Rattle.srr_log2.specs.Fields.{Outcome, reads, stops, Reader, onward, ◌>>=◌, give, allowed, byte_in, field_in, number_of, word_in, many_in, Gives}
-use Rattle.srr_log2.specs.EntryReading.{small_in, tag_in, count_in, int_in, ints_in, rank_in, sender_in, fault_in, members_in, mark_of, mark_kind_in, mark_in, item_in, items_in, some_items_in, halt_of, halt_in, record_kind_in, record_of, record_in, entries_in, list_in}
-use Rattle.srr_log2.specs.Reading.{head_in, ranks_in, group_in, program_in, body_in, digest_in, end_in, close_in, log_in}
+use Rattle.srr_log2.specs.Fields.{Outcome, reads, stops, Reader, onward, ◌>>=◌, give, allowed, coded_byte, coded_field, number_of, coded_word, coded_many, GivesFields}
+use Rattle.srr_log2.specs.EntryReading.{coded_small_number, coded_tag, coded_count, coded_int, coded_ints, coded_rank, coded_sender, coded_fault, coded_members, mark_of, coded_mark_kind, coded_mark, coded_item, coded_items, coded_some_items, halt_of, coded_halt, coded_record_kind, record_of, coded_record, coded_entries, coded_rank_list}
+use Rattle.srr_log2.specs.Reading.{coded_head, coded_rank_count, coded_group, coded_program, coded_body, coded_digest, coded_end, coded_close, coded_log}
 use Rattle.srr_log.specs.Refused.{IsWithin}
 
 -- in a text of that length
@@ -45,15 +45,15 @@ allowed_stays : {A : Type 0} (said : Option A) (why : LogWhy) (left size : ℕ) 
 allowed_stays (Some value) why left size rest here there = there
 allowed_stays None why left size rest here there = here
 
-a_byte : {A : Type 0} (why : LogWhy) (said : ℕ → Option A) → Stays (byte_in why said)
+a_byte : {A : Type 0} (why : LogWhy) (said : ℕ → Option A) → Stays (coded_byte why said)
 a_byte why said = record { inside = byte }
   where
-    byte : (text : List ℕ) → StaysIn (length text) (byte_in why said text)
+    byte : (text : List ℕ) → StaysIn (length text) (coded_byte why said text)
     byte [] = omega arith
     byte (first ∷ rest) = allowed_stays (said first) why (length rest + 1) (suc (length rest)) rest (omega arith) (omega arith)
 
-a_field : {A : Type 0} (width : ℕ) (why : List ℕ → LogWhy) (said : List ℕ → Option A) → Stays (field_in width why said)
-unfolding field_in
+a_field : {A : Type 0} (width : ℕ) (why : List ℕ → LogWhy) (said : List ℕ → Option A) → Stays (coded_field width why said)
+unfolding coded_field
 a_field width why said = record {
   inside = λ text.
       elim (cases_Bool (nat_lt (length text) width)) [
@@ -64,48 +64,48 @@ a_field width why said = record {
       ];
 }
 
-a_word : (why : LogWhy) (is_allowed : ℕ → Bool) → Stays (word_in why is_allowed)
+a_word : (why : LogWhy) (is_allowed : ℕ → Bool) → Stays (coded_word why is_allowed)
 a_word why is_allowed = a_field 4 (λ _. why) (number_of 4 is_allowed)
 
-many : {A : Type 0} {r : Reader A} → Stays r → (count : ℕ) → Stays (many_in r count)
+many : {A : Type 0} {r : Reader A} → Stays r → (count : ℕ) → Stays (coded_many r count)
 many here zero = none []
 many here (suc count) = next here (λ value. next (many here count) (λ values. none (value ∷ values)))
 
 -- numbers and ranks
-small : Stays small_in
-unfolding small_in
+small : Stays coded_small_number
+unfolding coded_small_number
 small = a_word _ _
 
-tag : Stays tag_in
-unfolding tag_in
+tag : Stays coded_tag
+unfolding coded_tag
 tag = a_word _ _
 
-count : (most : ℕ) → Stays (count_in most)
-unfolding count_in
+count : (most : ℕ) → Stays (coded_count most)
+unfolding coded_count
 count most = a_word _ _
 
-int : Stays int_in
-unfolding int_in
+int : Stays coded_int
+unfolding coded_int
 int = next (a_word _ _) (λ number. none _)
 
-ints : (most : ℕ) → Stays (ints_in most)
-unfolding ints_in
+ints : (most : ℕ) → Stays (coded_ints most)
+unfolding coded_ints
 ints most = next (count most) (λ count. many int count)
 
-rank : (n : ℕ) → Stays (rank_in n)
-unfolding rank_in
+rank : (n : ℕ) → Stays (coded_rank n)
+unfolding coded_rank
 rank n = a_byte _ _
 
-sender : (n : ℕ) (group : List ℕ) (inside : Bool) → Stays (sender_in n group inside)
-unfolding sender_in
+sender : (n : ℕ) (group : List ℕ) (inside : Bool) → Stays (coded_sender n group inside)
+unfolding coded_sender
 sender n group inside = a_byte _ _
 
-fault : Stays fault_in
-unfolding fault_in
+fault : Stays coded_fault
+unfolding coded_fault
 fault = a_byte _ _
 
-members : (n : ℕ) → Stays (members_in n)
-unfolding members_in
+members : (n : ℕ) → Stays (coded_members n)
+unfolding coded_members
 members n = next (a_byte _ _) (λ count. many (rank n) count)
 
 -- marks and items
@@ -119,20 +119,20 @@ mark_after n group OuterMark = next (ints 262144) (λ ints. none _)
 mark_after n group MadeMark = next small (λ comm. none _)
 mark_after n group MadeOutsideMark = next (a_word _ _) (λ comm. next (members n) (λ members. none _))
 
-mark : (n : ℕ) (group : List ℕ) → Stays (mark_in n group)
-unfolding mark_in mark_kind_in
+mark : (n : ℕ) (group : List ℕ) → Stays (coded_mark n group)
+unfolding coded_mark coded_mark_kind
 mark n group = next (a_byte _ _) (λ kind. mark_after n group kind)
 
-item : (n : ℕ) (group : List ℕ) (least : ℕ) → Stays (item_in n group least)
-unfolding item_in
+item : (n : ℕ) (group : List ℕ) (least : ℕ) → Stays (coded_item n group least)
+unfolding coded_item
 item n group least = next (a_word _ _) (λ index. next (mark n group) (λ mark. none _))
 
-items : (n : ℕ) (group : List ℕ) (least count : ℕ) → Stays (items_in n group least count)
+items : (n : ℕ) (group : List ℕ) (least count : ℕ) → Stays (coded_items n group least count)
 items n group least zero = none []
 items n group least (suc count) = next (item n group least) (λ i. next (items n group (i.index + 1) count) (λ others. none (i ∷ others)))
 
-some_items : (n : ℕ) (group : List ℕ) → Stays (some_items_in n group)
-unfolding some_items_in
+some_items : (n : ℕ) (group : List ℕ) → Stays (coded_some_items n group)
+unfolding coded_some_items
 some_items n group = next (a_word _ _) (λ count. items n group 0 count)
 
 -- halts
@@ -145,8 +145,8 @@ halt_after n BadRequestKind = next (rank n) (λ rank. next small (λ start. none
 halt_after n LimitKind = none _
 halt_after n StuckKind = none _
 
-halt : (n : ℕ) → Stays (halt_in n)
-unfolding halt_in
+halt : (n : ℕ) → Stays (coded_halt n)
+unfolding coded_halt
 halt n = next (a_byte _ _) (λ kind. halt_after n kind)
 
 -- records
@@ -161,68 +161,68 @@ record_after n group others PeekedInsideKind = next (sender n group true) (λ so
 record_after n group others PeekedOutsideKind = next (sender n group false) (λ source. next small (λ start. next tag (λ tag. next (count 65536) (λ count. none _))))
 record_after n group others StoppedKind = next (halt n) (λ halt. none _)
 
-a_record : (n : ℕ) (group : List ℕ) (counted : Bool) (others : ℕ) → Stays (record_in n group counted others)
-unfolding record_in record_kind_in
+a_record : (n : ℕ) (group : List ℕ) (counted : Bool) (others : ℕ) → Stays (coded_record n group counted others)
+unfolding coded_record coded_record_kind
 a_record n group counted others = next (a_byte _ _) (λ kind. record_after n group others kind)
 
-entries : (n : ℕ) (group : List ℕ) (counted : Bool) (more others : ℕ) → Stays (entries_in n group counted more others)
+entries : (n : ℕ) (group : List ℕ) (counted : Bool) (more others : ℕ) → Stays (coded_entries n group counted more others)
 entries n group counted zero zero = none []
 entries n group counted (suc more) zero = none []
 entries n group counted (suc more) (suc others) = next (entries n group true more others) (λ found. none _)
 entries n group counted zero (suc others) = next (a_record n group counted others) (λ first. next (entries n group _ _ others) (λ found. none _))
 
-list : (n : ℕ) (group : List ℕ) → Stays (list_in n group)
-unfolding list_in
+list : (n : ℕ) (group : List ℕ) → Stays (coded_rank_list n group)
+unfolding coded_rank_list
 list n group = next (a_word _ _) (λ count. entries n group false 0 count)
 
 -- the whole
-head : Stays head_in
-unfolding head_in
+head : Stays coded_head
+unfolding coded_head
 head = a_field _ _ _
 
-ranks : Stays ranks_in
-unfolding ranks_in
+ranks : Stays coded_rank_count
+unfolding coded_rank_count
 ranks = a_byte _ _
 
-group_stays : (n : ℕ) → Stays (group_in n)
-unfolding group_in
+group_stays : (n : ℕ) → Stays (coded_group n)
+unfolding coded_group
 group_stays n = next (a_field _ _ _) (λ bits. none _)
 
-program : Stays program_in
-unfolding program_in
+program : Stays coded_program
+unfolding coded_program
 program = next (a_word _ _) (λ size. a_field _ _ _)
 
-body : Stays body_in
-unfolding body_in
+body : Stays coded_body
+unfolding coded_body
 body = next head (λ _. next ranks (λ n. next (group_stays n) (λ group. next program (λ program. next (many (list n group) (length group)) (λ lists. none _)))))
 
-digest : (before : List ℕ) → Stays (digest_in before)
-unfolding digest_in
+digest : (before : List ℕ) → Stays (coded_digest before)
+unfolding coded_digest
 digest before = a_field _ _ _
 
-end_stays : Stays end_in
+end_stays : Stays coded_end
 end_stays = record { inside = end' }
   where
-    end' : (text : List ℕ) → StaysIn (length text) (end_in text)
+    end' : (text : List ℕ) → StaysIn (length text) (coded_end text)
     end' [] = omega arith
     end' (byte ∷ rest) = omega arith
 
-close : (before : List ℕ) → Stays (close_in before)
-unfolding close_in
+close : (before : List ℕ) → Stays (coded_close before)
+unfolding coded_close
 close before = next (digest before) (λ _. end_stays)
 
-pub log_stays : Stays log_in
-unfolding log_in
+pub log_stays : Stays coded_log
+unfolding coded_log
 log_stays = record {
   inside = λ text.
       let before : List ℕ → List ℕ = λ rest. take (length text - length rest) text in
-      step (body_in text) (λ log rest. onward (close_in (before rest) rest) (λ _. give log)) (length text) (body.inside text)
-      (λ log. record { inside = λ rest. step (close_in (before rest) rest) (λ _. give log) (length rest) ((close (before rest)).inside rest) (λ u. none log) });
+      step (coded_body text) (λ log rest. onward (coded_close (before rest) rest) (λ _. give log)) (length text) (body.inside text)
+      (λ log. record { inside = λ rest. step (coded_close (before rest) rest) (λ _. give log) (length rest) ((close (before rest)).inside rest) (λ u. none log) });
 }
 
-pub stop_within : (text rest : List ℕ) (stop : ReadError) → Gives (log_in text) (Err stop) rest → IsWithin stop (length text)
+pub stop_within : (text rest : List ℕ) (stop : ReadError) → GivesFields (coded_log text) (Err stop) rest → IsWithin stop (length text)
 stop_within text rest NoMemory is = tt
-stop_within text rest (Fault why left) is = placed (log_in text) (log_stays.inside text) is
+stop_within text rest (Fault why left) is = placed (coded_log text) (log_stays.inside text) is
   where
     placed : (o : Outcome Log) → StaysIn (length text) o → o ≡ stops why left → left ≤ length text
     placed (reads log middle) stays e = absurd cc

@@ -37,13 +37,13 @@ allowed (Some value) why left rest = reads value rest
 allowed None why left rest = stops why left
 
 -- a field of one byte; cut off, it is Short at the text's end
-abbrev pub byte_in : {A : Type 0} → LogWhy → (ℕ → Option A) → Reader A
-byte_in why said [] = stops Short 0
-byte_in why said (byte ∷ rest) = allowed (said byte) why (length rest + 1) rest
+abbrev pub coded_byte : {A : Type 0} → LogWhy → (ℕ → Option A) → Reader A
+coded_byte why said [] = stops Short 0
+coded_byte why said (byte ∷ rest) = allowed (said byte) why (length rest + 1) rest
 
 -- a field of `width` bytes; why it is not allowed may depend on them
-unfoldable pub field_in : {A : Type 0} → ℕ → (List ℕ → LogWhy) → (List ℕ → Option A) → Reader A
-field_in width why said text =
+unfoldable pub coded_field : {A : Type 0} → ℕ → (List ℕ → LogWhy) → (List ℕ → Option A) → Reader A
+coded_field width why said text =
     if nat_lt (length text) width then stops Short 0 else allowed (said (take width text)) (why (take width text)) (length text) (drop width text)
 
 -- the number that `width` bytes are, where it is allowed. (Every list of bytes has one; a list of other numbers has none)
@@ -52,15 +52,15 @@ number_of width is_allowed bytes =
     if bytes_eq bytes (big_bytes width (big_number width bytes)) && is_allowed (big_number width bytes) then Some (big_number width bytes) else None
 
 -- a field that is a number of four bytes
-abbrev pub word_in : LogWhy → (ℕ → Bool) → Reader ℕ
-word_in why is_allowed = field_in 4 (λ _. why) (number_of 4 is_allowed)
+abbrev pub coded_word : LogWhy → (ℕ → Bool) → Reader ℕ
+coded_word why is_allowed = coded_field 4 (λ _. why) (number_of 4 is_allowed)
 
 -- a number of values of a kind
-abbrev pub many_in : {A : Type 0} → Reader A → ℕ → Reader (List A)
-many_in r zero = give []
-many_in r (suc count) = do
+abbrev pub coded_many : {A : Type 0} → Reader A → ℕ → Reader (List A)
+coded_many r zero = give []
+coded_many r (suc count) = do
   value ← r
-  values ← many_in r count
+  values ← coded_many r count
   give (value ∷ values)
 
 -- a value, if it passes a test
@@ -76,9 +76,9 @@ IsByte text (Err (Fault why left)) rest = (text ≡ []) × (why ≡ Short) × (l
 
 -- the next number of four bytes, whatever is allowed there, and how many bytes there are from it on
 abbrev pub IsWord : List ℕ → Result (ℕ × ℕ) ReadError → List ℕ → Type 0
-IsWord text (Ok found) rest = (why : LogWhy) (is_allowed : ℕ → Bool) → word_in why is_allowed text ≡ allowed (only_if (is_allowed found.0) found.0) why found.1 rest
+IsWord text (Ok found) rest = (why : LogWhy) (is_allowed : ℕ → Bool) → coded_word why is_allowed text ≡ allowed (only_if (is_allowed found.0) found.0) why found.1 rest
 IsWord text (Err NoMemory) rest = ⊥
-IsWord text (Err (Fault why left)) rest = (why' : LogWhy) (is_allowed : ℕ → Bool) → word_in why' is_allowed text ≡ stops why left
+IsWord text (Err (Fault why left)) rest = (why' : LogWhy) (is_allowed : ℕ → Bool) → coded_word why' is_allowed text ≡ stops why left
 
 -- the next `width` bytes, and how many there are from them on
 abbrev pub IsField : ℕ → List ℕ → Result (Bor (List ℕ) × ℕ) ReadError → List ℕ → Type 0
@@ -87,7 +87,7 @@ IsField width text (Err NoMemory) rest = ⊥
 IsField width text (Err (Fault why left)) rest = (length text < width) × (why ≡ Short) × (left ≡ 0)
 
 -- what the code read and left is what the fields say, or it is out of memory
-abbrev pub Gives : {A : Type 0} → Outcome A → Result A ReadError → List ℕ → Type 0
-Gives said (Ok value) rest = said ≡ reads value rest
-Gives said (Err NoMemory) rest = Unit {0}
-Gives said (Err (Fault why left)) rest = said ≡ stops why left
+abbrev pub GivesFields : {A : Type 0} → Outcome A → Result A ReadError → List ℕ → Type 0
+GivesFields said (Ok value) rest = said ≡ reads value rest
+GivesFields said (Err NoMemory) rest = Unit {0}
+GivesFields said (Err (Fault why left)) rest = said ≡ stops why left

@@ -2,10 +2,11 @@
 use Rattle.std.specs.Prelude.{ℕ, zero, suc, ◌+◌, ◌*◌, ◌≡◌, List, [], ◌∷◌, ◌++◌, codes, length, if◌then◌else◌}
 use Rattle.byteorder.specs.Endian.{big_bytes}
 use Rattle.sha2.specs.Sha256.{sha256}
+use Rattle.mpi_call.specs.declared.limits.TheConstants.{MOST_RANKS}
 use Rattle.mpi_call.specs.Collectives.{is_member}
 use Rattle.srr_entry.specs.declared.entry.Entry.{Entry}
 use Rattle.srr_entry.specs.declared.log.Log.{Log}
-use Rattle.srr_text.specs.Bounds.{IsInBounds}
+use Rattle.srr_log.specs.Bounds.{IsInBounds}
 use Rattle.srr_log2.specs.EntryBytes.{word_bytes, list_bytes}
 
 -- a number with a bit for each of some ranks from the first on, the first rank's lowest: 1 where it is in the group
@@ -15,7 +16,7 @@ bits_from (suc count) first group = (if is_member group first then 1 else 0) + 2
 
 -- a number of eight bytes, whose bit r is set where rank r is in the group
 unfoldable pub group_bytes : List ℕ → List ℕ
-group_bytes group = big_bytes 8 (bits_from 64 0 group)
+group_bytes group = big_bytes 8 (bits_from MOST_RANKS 0 group)
 
 -- the format's name, the number of ranks, and the group
 abbrev pub head_bytes : ℕ → List ℕ → List ℕ

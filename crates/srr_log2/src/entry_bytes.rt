@@ -3,12 +3,13 @@ ghost use Rattle.std.specs.Prelude.{◌≡◌, ◌<◌, ◌≤◌, ◌+◌, ◌^
 ghost use Rattle.srr_entry.specs.declared.entry.Entry.TheVariants.{PeekedOutside};
 ghost use Rattle.srr_entry.specs.declared.entry.Mark.TheVariants.{Outside};
 ghost use Rattle.srr_log2.specs.EntryBytes.{counted_bytes, halt_bytes, int_bytes, ints_bytes, is_not_yet, items_bytes, list_bytes, mark_bytes, name_bytes, not_yets, record_bytes, records_bytes, tagged_bytes, word_bytes};
-ghost use Rattle.srr_log2.specs.Lengths.{AreShortEntries, AreShortItems, IsShortEntry, IsShortList, IsShortMark};
+ghost use Rattle.srr_log2.specs.inside.Lengths.{AreShortEntries, AreShortItems, IsShortEntry, IsShortList, IsShortMark};
 
-use crate::kind::{fault_number, is_not_yet};
+use crate::kind::is_not_yet;
 use byteorder::{BigEndian, ByteOrder};
 use mpi_call::call::Halt;
 use srr_entry::entry::{Entry, Mark, Marked};
+use srr_log::fault_numbers::fault_number;
 use std::alloc::AllocError;
 use wiz_base::{Bytes, push_text};
 
@@ -171,7 +172,7 @@ fn push_halt(out: &mut Bytes, halt: &Halt) -> Result<(), AllocError>
             push_text(out, &[1, *rank])?;
             push_int(out, *code)
         }
-        Halt::Trapped { rank, fault } => push_text(out, &[2, *rank, fault_number(fault)]),
+        Halt::Trapped { rank, fault } => push_text(out, &[2, *rank, fault_number(*fault)]),
         Halt::Truncated { rank, start } => push_name(out, 3, *rank, *start),
         Halt::Mismatched { rank } => push_text(out, &[4, *rank]),
         Halt::BadRequest { rank, start } => push_name(out, 5, *rank, *start),

@@ -4,18 +4,17 @@ ghost use Rattle.std.specs.Prelude.{◌≡◌, ◌≤◌, IfOk, FitsSigned, ◌<
 ghost use Rattle.mpi_call.specs.Collectives.{is_member};
 ghost use Rattle.srr_log.specs.declared.fault.LogWhy.TheVariants.{BadEntry};
 ghost use Rattle.srr_log2.specs.EntryBytes.{word_bytes};
-ghost use Rattle.srr_log2.specs.Fields.{Gives, IsByte, IsField, IsWord, byte_in, word_in, only_if};
-ghost use Rattle.srr_log2.specs.Kinds.{fault_of};
-ghost use Rattle.srr_log2.specs.EntryReading.{between, count_in, fault_in, int_in, rank_in, sender_in, small_in, tag_in};
+ghost use Rattle.srr_log2.specs.Fields.{GivesFields, IsByte, IsField, IsWord, coded_byte, coded_word, only_if};
+ghost use Rattle.srr_log2.specs.EntryReading.{between, coded_count, coded_fault, coded_int, coded_rank, coded_sender, coded_small_number, coded_tag};
 
-use crate::kind;
 use crate::read_error::{bad_entry, cut_off};
 use byteorder::{BigEndian, ByteOrder};
 use mpi_call::call::Fault;
 use mpi_call::limits::GREATEST_TAG;
 use srr_log::fault::LogWhy;
+use srr_log::fault_numbers::fault_numbered;
+use srr_log::limits::GREATEST_NUMBER;
 use srr_log::read_error::ReadError;
-use srr_text::limits::GREATEST_NUMBER;
 use wiz_base::Cursor;
 
 /// The next byte, and how many bytes there are from it on.
@@ -61,7 +60,7 @@ fn word_of(bytes: &[u8]) -> u32
 
 /// A number of four bytes, from `least` to `most`.
 pub fn number(cursor: &mut Cursor<'_>, why: LogWhy, least: u32, most: u32) -> Result<u32, ReadError>
-    ensures read { Gives (word_in why (between least most) cursor.old) result cursor.new }
+    ensures read { GivesFields (coded_word why (between least most) cursor.old) result cursor.new }
     ensures within { IfOk result (λ number. (least ≤ number) × (number ≤ most)) }
 {
     let (number, left) = word(cursor)?;
@@ -73,33 +72,33 @@ pub fn number(cursor: &mut Cursor<'_>, why: LogWhy, least: u32, most: u32) -> Re
 }
 
 /// A start's number, or a communicator's.
-#[tactic(auto, unfolding(crate::specs::EntryReading::small_in))]
+#[tactic(auto, unfolding(crate::specs::EntryReading::coded_small_number))]
 pub fn small(cursor: &mut Cursor<'_>) -> Result<u32, ReadError>
-    ensures { Gives (small_in cursor.old) result cursor.new }
+    ensures { GivesFields (coded_small_number cursor.old) result cursor.new }
 {
     number(cursor, LogWhy::BadEntry, 0, GREATEST_NUMBER)
 }
 
 /// A message's tag.
-#[tactic(auto, unfolding(crate::specs::EntryReading::tag_in))]
+#[tactic(auto, unfolding(crate::specs::EntryReading::coded_tag))]
 pub fn tag(cursor: &mut Cursor<'_>) -> Result<u32, ReadError>
-    ensures { Gives (tag_in cursor.old) result cursor.new }
+    ensures { GivesFields (coded_tag cursor.old) result cursor.new }
 {
     number(cursor, LogWhy::BadEntry, 0, GREATEST_TAG)
 }
 
 /// A count of ints, at most `most`.
-#[tactic(auto, unfolding(crate::specs::EntryReading::count_in))]
+#[tactic(auto, unfolding(crate::specs::EntryReading::coded_count))]
 pub fn count(cursor: &mut Cursor<'_>, most: u32) -> Result<u32, ReadError>
-    ensures { Gives (count_in most cursor.old) result cursor.new }
+    ensures { GivesFields (coded_count most cursor.old) result cursor.new }
 {
     number(cursor, LogWhy::BadEntry, 0, most)
 }
 
 /// An int in two's complement.
-#[tactic(auto, unfolding(crate::specs::EntryReading::int_in))]
+#[tactic(auto, unfolding(crate::specs::EntryReading::coded_int))]
 pub fn int(cursor: &mut Cursor<'_>) -> Result<i32, ReadError>
-    ensures read { Gives (int_in cursor.old) result cursor.new }
+    ensures read { GivesFields (coded_int cursor.old) result cursor.new }
     ensures fits { IfOk result (λ int. FitsSigned w32 int) }
 {
     let (number, _) = word(cursor)?;
@@ -107,9 +106,9 @@ pub fn int(cursor: &mut Cursor<'_>) -> Result<i32, ReadError>
 }
 
 /// A rank of the run.
-#[tactic(auto, unfolding(crate::specs::EntryReading::rank_in))]
+#[tactic(auto, unfolding(crate::specs::EntryReading::coded_rank))]
 pub fn rank(cursor: &mut Cursor<'_>, ranks: u8) -> Result<u8, ReadError>
-    ensures { Gives (rank_in ranks cursor.old) result cursor.new }
+    ensures { GivesFields (coded_rank ranks cursor.old) result cursor.new }
 {
     let (rank, left) = byte(cursor)?;
     if rank < ranks {
@@ -120,14 +119,14 @@ pub fn rank(cursor: &mut Cursor<'_>, ranks: u8) -> Result<u8, ReadError>
 }
 
 /// The sender of a message, in the group or outside it.
-#[tactic(auto, unfolding(crate::specs::EntryReading::sender_in))]
+#[tactic(auto, unfolding(crate::specs::EntryReading::coded_sender))]
 pub fn sender(
     cursor: &mut Cursor<'_>,
     ranks: u8,
     group: &[u8],
     inside: bool,
 ) -> Result<u8, ReadError>
-    ensures { Gives (sender_in ranks group.now inside cursor.old) result cursor.new }
+    ensures { GivesFields (coded_sender ranks group.now inside cursor.old) result cursor.new }
 {
     let (rank, left) = byte(cursor)?;
     if rank < ranks && group.contains(&rank) == inside {
@@ -138,12 +137,12 @@ pub fn sender(
 }
 
 /// Why a program trapped.
-#[tactic(auto, unfolding(crate::specs::EntryReading::fault_in))]
+#[tactic(auto, unfolding(crate::specs::EntryReading::coded_fault))]
 pub fn fault(cursor: &mut Cursor<'_>) -> Result<Fault, ReadError>
-    ensures { Gives (fault_in cursor.old) result cursor.new }
+    ensures { GivesFields (coded_fault cursor.old) result cursor.new }
 {
     let (number, left) = byte(cursor)?;
-    match kind::fault(number) {
+    match fault_numbered(number as u32) {
         Some(fault) => Ok(fault),
         None => Err(bad_entry(left)),
     }

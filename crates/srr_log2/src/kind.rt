@@ -1,10 +1,8 @@
 //! The kinds of records, marks and halts, by their bytes.
 ghost use Rattle.std.specs.Prelude.{◌≡◌};
-ghost use Rattle.mpi_call.specs.Halts.{fault_number};
 ghost use Rattle.srr_log2.specs.EntryBytes.{is_not_yet};
-ghost use Rattle.srr_log2.specs.Kinds.{fault_of, halt_kind_of, mark_kind_of, record_kind_of};
+ghost use Rattle.srr_log2.specs.Kinds.{halt_kind_of, mark_kind_of, record_kind_of};
 
-use mpi_call::call::Fault;
 use srr_entry::entry::Entry;
 
 /// What a record stands for.
@@ -91,42 +89,6 @@ pub fn halt_kind(number: u8) -> Option<HaltKind>
         6 => Some(HaltKind::Limit),
         7 => Some(HaltKind::Stuck),
         _ => None,
-    }
-}
-
-pub fn fault(number: u8) -> Option<Fault>
-    ensures { result ≡ fault_of number }
-{
-    match number {
-        1 => Some(Fault::DivideByZero),
-        2 => Some(Fault::OutOfBounds),
-        3 => Some(Fault::BadRank),
-        4 => Some(Fault::BadTag),
-        5 => Some(Fault::BadCount),
-        6 => Some(Fault::BadComm),
-        7 => Some(Fault::Budget),
-        8 => Some(Fault::OutputFull),
-        9 => Some(Fault::Depth),
-        10 => Some(Fault::Cells),
-        _ => None,
-    }
-}
-
-/// Faults are numbered from 1.
-pub fn fault_number(fault: &Fault) -> u8
-    ensures { result ≡ fault_number fault.now }
-{
-    match fault {
-        Fault::DivideByZero => 1,
-        Fault::OutOfBounds => 2,
-        Fault::BadRank => 3,
-        Fault::BadTag => 4,
-        Fault::BadCount => 5,
-        Fault::BadComm => 6,
-        Fault::Budget => 7,
-        Fault::OutputFull => 8,
-        Fault::Depth => 9,
-        Fault::Cells => 10,
     }
 }
 

@@ -1,7 +1,7 @@
 //! Lists of ints and of ranks.
 ghost use Rattle.std.specs.Prelude.{◌≡◌, ◌++◌, ◌∷◌, [], OnOk, length};
-ghost use Rattle.srr_log2.specs.Fields.{Gives, many_in};
-ghost use Rattle.srr_log2.specs.EntryReading.{between, int_in, ints_in, members_in, rank_in};
+ghost use Rattle.srr_log2.specs.Fields.{GivesFields, coded_many};
+ghost use Rattle.srr_log2.specs.EntryReading.{between, coded_int, coded_ints, coded_members, coded_rank};
 
 use crate::field::{byte, count, int, rank};
 use crate::read_error::bad_entry;
@@ -12,16 +12,16 @@ use std::alloc::{AllocError, Global};
 use wiz_base::Cursor;
 
 /// So many ints at most: how many, and then these.
-#[tactic(auto, unfolding(crate::specs::EntryReading::ints_in))]
+#[tactic(auto, unfolding(crate::specs::EntryReading::coded_ints))]
 pub fn ints(alloc: Global, cursor: &mut Cursor<'_>, most: u32) -> Result<Ints, ReadError>
-    ensures { Gives (ints_in most cursor.old) result cursor.new }
+    ensures { GivesFields (coded_ints most cursor.old) result cursor.new }
 {
     let count = count(cursor, most)?;
     many_ints(alloc, cursor, count)
 }
 
 fn many_ints(alloc: Global, cursor: &mut Cursor<'_>, count: u32) -> Result<Ints, ReadError>
-    ensures { Gives (many_in int_in count cursor.old) result cursor.new }
+    ensures { GivesFields (coded_many coded_int count cursor.old) result cursor.new }
 {
     let mut found = Ints::new(alloc);
     let mut left = count;
@@ -41,9 +41,9 @@ fn add_int(found: &mut Ints, int: i32) -> Result<(), AllocError>
 }
 
 /// The members of a communicator: how many, and then these.
-#[tactic(auto, unfolding(crate::specs::EntryReading::members_in))]
+#[tactic(auto, unfolding(crate::specs::EntryReading::coded_members))]
 pub fn members(alloc: Global, cursor: &mut Cursor<'_>, ranks: u8) -> Result<Ranks, ReadError>
-    ensures { Gives (members_in ranks cursor.old) result cursor.new }
+    ensures { GivesFields (coded_members ranks cursor.old) result cursor.new }
 {
     let (count, left) = byte(cursor)?;
     if count < 1 || count > MOST_RANKS {
@@ -58,7 +58,7 @@ fn many_ranks(
     ranks: u8,
     count: u8,
 ) -> Result<Ranks, ReadError>
-    ensures { Gives (many_in (rank_in ranks) count cursor.old) result cursor.new }
+    ensures { GivesFields (coded_many (coded_rank ranks) count cursor.old) result cursor.new }
 {
     let mut found = Ranks::new(alloc);
     let mut left = count;

@@ -1,8 +1,8 @@
 //! Marks: what a completed start gave.
 ghost use Rattle.std.specs.Prelude.{◌≡◌};
 ghost use Rattle.srr_log2.specs.declared.kind.MarkKind.TheVariants.{Outside};
-ghost use Rattle.srr_log2.specs.Fields.{Gives};
-ghost use Rattle.srr_log2.specs.EntryReading.{mark_in, mark_kind_in, mark_of};
+ghost use Rattle.srr_log2.specs.Fields.{GivesFields};
+ghost use Rattle.srr_log2.specs.EntryReading.{coded_mark, coded_mark_kind, mark_of};
 
 use crate::field::{byte, number, sender, small, tag};
 use crate::kind::{MarkKind, mark_kind};
@@ -11,15 +11,15 @@ use crate::read_error::bad_entry;
 use mpi_call::limits::{MOST_INTS, MOST_RESULT_INTS};
 use srr_entry::entry::Mark;
 use srr_log::fault::LogWhy;
+use srr_log::limits::GREATEST_NUMBER;
 use srr_log::read_error::ReadError;
-use srr_text::limits::GREATEST_NUMBER;
 use std::alloc::Global;
 use wiz_base::Cursor;
 
 /// The kind of a mark.
-#[tactic(auto, unfolding(crate::specs::EntryReading::mark_kind_in))]
+#[tactic(auto, unfolding(crate::specs::EntryReading::coded_mark_kind))]
 fn kind(cursor: &mut Cursor<'_>) -> Result<MarkKind, ReadError>
-    ensures { Gives (mark_kind_in cursor.old) result cursor.new }
+    ensures { GivesFields (coded_mark_kind cursor.old) result cursor.new }
 {
     let (number, left) = byte(cursor)?;
     match mark_kind(number) {
@@ -29,14 +29,14 @@ fn kind(cursor: &mut Cursor<'_>) -> Result<MarkKind, ReadError>
 }
 
 /// A mark: its kind, and what follows.
-#[tactic(auto, unfolding(crate::specs::EntryReading::mark_in))]
+#[tactic(auto, unfolding(crate::specs::EntryReading::coded_mark))]
 pub fn mark(
     alloc: Global,
     cursor: &mut Cursor<'_>,
     ranks: u8,
     group: &[u8],
 ) -> Result<Mark, ReadError>
-    ensures { Gives (mark_in ranks group.now cursor.old) result cursor.new }
+    ensures { GivesFields (coded_mark ranks group.now cursor.old) result cursor.new }
 {
     let kind = kind(cursor)?;
     mark_of(alloc, cursor, ranks, group, kind)
@@ -49,7 +49,7 @@ fn outside(
     ranks: u8,
     group: &[u8],
 ) -> Result<Mark, ReadError>
-    ensures { Gives (mark_of ranks group.now Outside cursor.old) result cursor.new }
+    ensures { GivesFields (mark_of ranks group.now Outside cursor.old) result cursor.new }
 {
     let source = sender(cursor, ranks, group, false)?;
     let start = small(cursor)?;
@@ -71,7 +71,7 @@ fn mark_of(
     group: &[u8],
     kind: MarkKind,
 ) -> Result<Mark, ReadError>
-    ensures { Gives (mark_of ranks group.now kind cursor.old) result cursor.new }
+    ensures { GivesFields (mark_of ranks group.now kind cursor.old) result cursor.new }
 {
     match kind {
         MarkKind::Sent => Ok(Mark::Sent),

@@ -6,12 +6,12 @@ ghost use Rattle.group_plan.specs.OneReading.{HaveOneReading};
 ghost use Rattle.srr_entry.specs.declared.log.Log.{Log};
 ghost use Rattle.srr_log.specs.declared.fault.LogFault.{LogFault};
 ghost use Rattle.srr_log.specs.Faults.{no_memory};
-ghost use Rattle.srr_text.specs.Bounds.{IsInBounds};
-ghost use Rattle.srr_text.specs.LogText.{log_text};
-ghost use Rattle.srr_log2.specs.EntryReading.{between, list_in};
-ghost use Rattle.srr_log2.specs.Fields.{Gives, many_in};
+ghost use Rattle.srr_log.specs.Bounds.{IsInBounds};
+ghost use Rattle.srr_log.specs.LogText.{log_text};
+ghost use Rattle.srr_log2.specs.EntryReading.{between, coded_rank_list};
+ghost use Rattle.srr_log2.specs.Fields.{GivesFields, coded_many};
 ghost use Rattle.srr_log2.specs.LogBytes.{AreLogBytes, log_bytes};
-ghost use Rattle.srr_log2.specs.Reading.{IsFirstFault, bits_set, body_in, close_in, digest_in, end_in, group_in, head_in, head_why, log_in, program_in, ranks_in};
+ghost use Rattle.srr_log2.specs.Reading.{IsFirstFieldFault, bits_set, coded_body, coded_close, coded_digest, coded_end, coded_group, coded_head, head_why, coded_log, coded_program, coded_rank_count};
 
 use crate::field::{byte, field, number};
 use crate::record::list;
@@ -20,15 +20,16 @@ use mpi_call::limits::MOST_RANKS;
 use mpi_call::lists::Ranks;
 use sha2::{Digest, Sha256};
 use srr_entry::log::{Entries, Lists, Log};
+use srr_log::adding::add_list;
 use srr_log::fault::{LogFault, LogWhy};
+use srr_log::limits::MOST_PROGRAM_BYTES;
 use srr_log::read_error::{ReadError, fault_of};
-use srr_text::limits::MOST_PROGRAM_BYTES;
 use std::alloc::{AllocError, Global};
 use wiz_base::{Bytes, Cursor};
 
 /// The format's name.
 fn head(cursor: &mut Cursor<'_>) -> Result<(), ReadError>
-    ensures { Gives (head_in cursor.old) result cursor.new }
+    ensures { GivesFields (coded_head cursor.old) result cursor.new }
 {
     let (bytes, left) = field(cursor, 6)?;
     if bytes == b"srr 2\n".as_slice() {
@@ -52,9 +53,9 @@ fn head_why(bytes: &[u8]) -> LogWhy
 }
 
 /// The number of ranks of the run.
-#[tactic(auto, unfolding(crate::specs::Reading::ranks_in))]
+#[tactic(auto, unfolding(crate::specs::Reading::coded_rank_count))]
 fn ranks(cursor: &mut Cursor<'_>) -> Result<u8, ReadError>
-    ensures read { Gives (ranks_in cursor.old) result cursor.new }
+    ensures read { GivesFields (coded_rank_count cursor.old) result cursor.new }
     ensures few { IfOk result (λ ranks. (1 ≤ ranks) × (ranks ≤ MOST_RANKS)) }
 {
     let (ranks, left) = byte(cursor)?;
@@ -111,7 +112,7 @@ fn add_if_set(found: &mut Ranks, rank: u8, bits: u64) -> Result<(), AllocError>
 /// The ranks of the group.
 fn group(alloc: Global, cursor: &mut Cursor<'_>, ranks: u8) -> Result<Ranks, ReadError>
     requires { ranks ≤ MOST_RANKS }
-    ensures { Gives (group_in ranks cursor.old) result cursor.new }
+    ensures { GivesFields (coded_group ranks cursor.old) result cursor.new }
 {
     let (bytes, left) = field(cursor, 8)?;
     let bits = bits_of(bytes);
@@ -127,7 +128,7 @@ fn group(alloc: Global, cursor: &mut Cursor<'_>, ranks: u8) -> Result<Ranks, Rea
 
 /// The program: how many bytes, and then these.
 fn program(alloc: Global, cursor: &mut Cursor<'_>) -> Result<Bytes, ReadError>
-    ensures { Gives (program_in cursor.old) result cursor.new }
+    ensures { GivesFields (coded_program cursor.old) result cursor.new }
 {
     let size = number(cursor, LogWhy::BadNumber, 0, MOST_PROGRAM_BYTES)?;
     let (bytes, _) = field(cursor, size as usize)?;
@@ -142,7 +143,7 @@ fn lists(
     ranks: u8,
     group: &[u8],
 ) -> Result<Lists, ReadError>
-    ensures { Gives (many_in (list_in ranks group.now) (length group.now) cursor.old) result cursor.new }
+    ensures { GivesFields (coded_many (coded_rank_list ranks group.now) (length group.now) cursor.old) result cursor.new }
 {
     let mut found = Lists::new(alloc);
     let mut left = group.len();
@@ -154,17 +155,10 @@ fn lists(
     Ok(found)
 }
 
-fn add_list(lists: &mut Lists, entries: Entries) -> Result<(), AllocError>
-    ensures { OnOk result (lists.new ≡ lists.old ++ entries ∷ []) }
-{
-    lists.push(entries)?;
-    Ok(())
-}
-
 /// All but the digest.
-#[tactic(auto, unfolding(crate::specs::Reading::body_in))]
+#[tactic(auto, unfolding(crate::specs::Reading::coded_body))]
 fn body(alloc: Global, cursor: &mut Cursor<'_>) -> Result<Log, ReadError>
-    ensures { Gives (body_in cursor.old) result cursor.new }
+    ensures { GivesFields (coded_body cursor.old) result cursor.new }
 {
     head(cursor)?;
     let ranks = ranks(cursor)?;
@@ -181,7 +175,7 @@ fn body(alloc: Global, cursor: &mut Cursor<'_>) -> Result<Log, ReadError>
 
 /// The digest of the bytes before.
 fn digest(cursor: &mut Cursor<'_>, before: &[u8]) -> Result<(), ReadError>
-    ensures { Gives (digest_in before.now cursor.old) result cursor.new }
+    ensures { GivesFields (coded_digest before.now cursor.old) result cursor.new }
 {
     let (bytes, left) = field(cursor, 32)?;
     if is_digest(bytes, before) {
@@ -204,7 +198,7 @@ fn is_digest(bytes: &[u8], before: &[u8]) -> bool
 
 /// Nothing more.
 fn end(cursor: &mut Cursor<'_>) -> Result<(), ReadError>
-    ensures { Gives (end_in cursor.old) result cursor.new }
+    ensures { GivesFields (coded_end cursor.old) result cursor.new }
 {
     let left = cursor.rest().len();
     if left == 0 {
@@ -218,9 +212,9 @@ fn end(cursor: &mut Cursor<'_>) -> Result<(), ReadError>
 }
 
 /// The digest of the bytes before, and nothing more.
-#[tactic(auto, unfolding(crate::specs::Reading::close_in))]
+#[tactic(auto, unfolding(crate::specs::Reading::coded_close))]
 fn close(cursor: &mut Cursor<'_>, before: &[u8]) -> Result<(), ReadError>
-    ensures { Gives (close_in before.now cursor.old) result cursor.new }
+    ensures { GivesFields (coded_close before.now cursor.old) result cursor.new }
 {
     digest(cursor, before)?;
     end(cursor)
@@ -228,7 +222,7 @@ fn close(cursor: &mut Cursor<'_>, before: &[u8]) -> Result<(), ReadError>
 
 /// All fields, and nothing after them.
 fn read(alloc: Global, text: &[u8]) -> Result<Log, ReadError>
-    ensures { Gives (log_in text.now) result [] }
+    ensures { GivesFields (coded_log text.now) result [] }
 {
     let mut cursor = Cursor::new(text);
     let log = body(alloc, &mut cursor)?;
@@ -242,10 +236,10 @@ fn read(alloc: Global, text: &[u8]) -> Result<Log, ReadError>
 pub fn read_log2(alloc: Global, text: &[u8]) -> Result<Log, LogFault>
     requires { length text.now < 2 ^ 32 }
     ensures log { IfOk result (λ log. AreLogBytes text.now log) }
-    ensures fault { IfErr result (λ fault. (fault ≡ no_memory) ⊎ IsFirstFault text.now fault) }
+    ensures fault { IfErr result (λ fault. (fault ≡ no_memory) ⊎ IsFirstFieldFault text.now fault) }
     ensures only_log { (log : Log) → AreLogBytes text.now log
         → MatchResult result (λ found. found ≡ log) (λ fault. fault ≡ no_memory) }
-    ensures only_fault { (first : LogFault) → IsFirstFault text.now first
+    ensures only_fault { (first : LogFault) → IsFirstFieldFault text.now first
         → MatchResult result (λ _. ⊥) (λ fault. (fault ≡ no_memory) ⊎ (fault ≡ first)) }
 {
     match read(alloc, text) {
@@ -260,5 +254,5 @@ pub fn one_reading()
     ensures bytes { (log other : Log) (more : List ℕ) → IsInBounds log → IsInBounds other
         → log_bytes log ++ more ≡ log_bytes other → (log ≡ other) × (more ≡ []) }
     ensures apart { (log other : Log) → log_text log ≡ log_bytes other → ⊥ }
-    ensures logs { HaveOneReading AreLogBytes IsFirstFault }
+    ensures logs { HaveOneReading AreLogBytes IsFirstFieldFault }
 {}

@@ -3,8 +3,8 @@ ghost use Rattle.std.specs.Prelude.{◌≡◌, ◌≤◌, IfOk, ◌++◌, ◌∷
 ghost use Rattle.srr_entry.specs.declared.entry.Entry.TheVariants.{Took};
 ghost use Rattle.srr_log2.specs.declared.kind.RecordKind.TheVariants.{PeekedOutside};
 ghost use Rattle.srr_log2.specs.EntryBytes.{is_not_yet};
-ghost use Rattle.srr_log2.specs.Fields.{Gives, many_in};
-ghost use Rattle.srr_log2.specs.EntryReading.{entries_in, halt_in, halt_of, item_in, items_in, list_in, may_stand, record_in, record_kind_in, record_of, some_items_in};
+ghost use Rattle.srr_log2.specs.Fields.{GivesFields, coded_many};
+ghost use Rattle.srr_log2.specs.EntryReading.{coded_entries, coded_halt, halt_of, coded_item, coded_items, coded_rank_list, may_stand, coded_record, coded_record_kind, record_of, coded_some_items};
 
 use crate::field::{byte, count, fault, int, number, rank, sender, small, tag, word};
 use crate::kind::{HaltKind, RecordKind, halt_kind, is_not_yet, record_kind};
@@ -14,14 +14,15 @@ use mpi_call::call::Halt;
 use mpi_call::limits::MOST_INTS;
 use srr_entry::entry::{Entry, Marked, MarkedItems};
 use srr_entry::log::Entries;
+use srr_log::adding::add_entry;
 use srr_log::fault::LogWhy;
+use srr_log::limits::{GREATEST_NUMBER, MOST_ENTRIES};
 use srr_log::read_error::ReadError;
-use srr_text::limits::{GREATEST_NUMBER, MOST_ENTRIES};
 use std::alloc::{AllocError, Global};
 use wiz_base::Cursor;
 
 /// A completed start: its index, at least so much, and its mark.
-#[tactic(auto, unfolding(crate::specs::EntryReading::item_in))]
+#[tactic(auto, unfolding(crate::specs::EntryReading::coded_item))]
 fn item(
     alloc: Global,
     cursor: &mut Cursor<'_>,
@@ -29,7 +30,7 @@ fn item(
     group: &[u8],
     least: u32,
 ) -> Result<Marked, ReadError>
-    ensures read { Gives (item_in ranks group.now least cursor.old) result cursor.new }
+    ensures read { GivesFields (coded_item ranks group.now least cursor.old) result cursor.new }
     ensures small { IfOk result (λ item. item.index ≤ GREATEST_NUMBER) }
 {
     let index = number(cursor, LogWhy::BadEntry, least, GREATEST_NUMBER)?;
@@ -45,7 +46,7 @@ fn items(
     group: &[u8],
     count: u32,
 ) -> Result<MarkedItems, ReadError>
-    ensures { Gives (items_in ranks group.now 0 count cursor.old) result cursor.new }
+    ensures { GivesFields (coded_items ranks group.now 0 count cursor.old) result cursor.new }
 {
     let mut found = MarkedItems::new(alloc);
     let mut least = 0;
@@ -67,9 +68,9 @@ fn add_item(found: &mut MarkedItems, item: Marked) -> Result<(), AllocError>
 }
 
 /// A halt: its kind, and what follows.
-#[tactic(auto, unfolding(crate::specs::EntryReading::halt_in))]
+#[tactic(auto, unfolding(crate::specs::EntryReading::coded_halt))]
 fn halt(cursor: &mut Cursor<'_>, ranks: u8) -> Result<Halt, ReadError>
-    ensures { Gives (halt_in ranks cursor.old) result cursor.new }
+    ensures { GivesFields (coded_halt ranks cursor.old) result cursor.new }
 {
     let (number, left) = byte(cursor)?;
     match halt_kind(number) {
@@ -80,7 +81,7 @@ fn halt(cursor: &mut Cursor<'_>, ranks: u8) -> Result<Halt, ReadError>
 
 /// What follows the kind of a halt.
 fn halt_of(cursor: &mut Cursor<'_>, ranks: u8, kind: HaltKind) -> Result<Halt, ReadError>
-    ensures { Gives (halt_of ranks kind cursor.old) result cursor.new }
+    ensures { GivesFields (halt_of ranks kind cursor.old) result cursor.new }
 {
     match kind {
         HaltKind::Aborted => {
@@ -124,9 +125,9 @@ fn may_stand(counted: bool, others: u32, kind: RecordKind) -> bool
 }
 
 /// The first byte of a record.
-#[tactic(auto, unfolding(crate::specs::EntryReading::record_kind_in))]
+#[tactic(auto, unfolding(crate::specs::EntryReading::coded_record_kind))]
 fn kind(cursor: &mut Cursor<'_>, counted: bool, others: u32) -> Result<RecordKind, ReadError>
-    ensures { Gives (record_kind_in counted others cursor.old) result cursor.new }
+    ensures { GivesFields (coded_record_kind counted others cursor.old) result cursor.new }
 {
     let (number, left) = byte(cursor)?;
     if let Some(kind) = record_kind(number) {
@@ -138,7 +139,7 @@ fn kind(cursor: &mut Cursor<'_>, counted: bool, others: u32) -> Result<RecordKin
 }
 
 /// The entry that a record stands for, and for how many more of them it stands.
-#[tactic(auto, unfolding(crate::specs::EntryReading::record_in))]
+#[tactic(auto, unfolding(crate::specs::EntryReading::coded_record))]
 fn record(
     alloc: Global,
     cursor: &mut Cursor<'_>,
@@ -148,7 +149,7 @@ fn record(
     others: u32,
 ) -> Result<(Entry, u32), ReadError>
     requires { others + 1 < 2 ^ 32 }
-    ensures { Gives (record_in ranks group.now counted others cursor.old) result cursor.new }
+    ensures { GivesFields (coded_record ranks group.now counted others cursor.old) result cursor.new }
 {
     let kind = kind(cursor, counted, others)?;
     record_of(alloc, cursor, ranks, group, others, kind)
@@ -160,7 +161,7 @@ fn peeked_outside(
     ranks: u8,
     group: &[u8],
 ) -> Result<(Entry, u32), ReadError>
-    ensures { Gives (record_of ranks group.now 0 PeekedOutside cursor.old) result cursor.new }
+    ensures { GivesFields (record_of ranks group.now 0 PeekedOutside cursor.old) result cursor.new }
 {
     let source = sender(cursor, ranks, group, false)?;
     let start = small(cursor)?;
@@ -185,7 +186,7 @@ fn record_of(
     kind: RecordKind,
 ) -> Result<(Entry, u32), ReadError>
     requires { others + 1 < 2 ^ 32 }
-    ensures { Gives (record_of ranks group.now others kind cursor.old) result cursor.new }
+    ensures { GivesFields (record_of ranks group.now others kind cursor.old) result cursor.new }
 {
     match kind {
         RecordKind::Sent => Ok((Entry::Sent, 0)),
@@ -214,14 +215,14 @@ fn record_of(
 }
 
 /// How many completed starts, at least one, and then these.
-#[tactic(auto, unfolding(crate::specs::EntryReading::some_items_in))]
+#[tactic(auto, unfolding(crate::specs::EntryReading::coded_some_items))]
 fn some_items(
     alloc: Global,
     cursor: &mut Cursor<'_>,
     ranks: u8,
     group: &[u8],
 ) -> Result<MarkedItems, ReadError>
-    ensures { Gives (some_items_in ranks group.now cursor.old) result cursor.new }
+    ensures { GivesFields (coded_some_items ranks group.now cursor.old) result cursor.new }
 {
     let (count, left) = word(cursor)?;
     if count == 0 {
@@ -238,7 +239,7 @@ fn entries(
     group: &[u8],
     count: u32,
 ) -> Result<Entries, ReadError>
-    ensures { Gives (entries_in ranks group.now false 0 count cursor.old) result cursor.new }
+    ensures { GivesFields (coded_entries ranks group.now false 0 count cursor.old) result cursor.new }
 {
     let mut found = Entries::new(alloc);
     let mut left = count;
@@ -260,22 +261,15 @@ fn entries(
     Ok(found)
 }
 
-fn add_entry(found: &mut Entries, entry: Entry) -> Result<(), AllocError>
-    ensures { OnOk result (found.new ≡ found.old ++ entry ∷ []) }
-{
-    found.push(entry)?;
-    Ok(())
-}
-
 /// The list of a rank: how many entries it has, and then their records.
-#[tactic(auto, unfolding(crate::specs::EntryReading::list_in))]
+#[tactic(auto, unfolding(crate::specs::EntryReading::coded_rank_list))]
 pub fn list(
     alloc: Global,
     cursor: &mut Cursor<'_>,
     ranks: u8,
     group: &[u8],
 ) -> Result<Entries, ReadError>
-    ensures { Gives (list_in ranks group.now cursor.old) result cursor.new }
+    ensures { GivesFields (coded_rank_list ranks group.now cursor.old) result cursor.new }
 {
     let count = number(cursor, LogWhy::BadNumber, 0, MOST_ENTRIES)?;
     entries(alloc, cursor, ranks, group, count)

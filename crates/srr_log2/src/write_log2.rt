@@ -1,11 +1,12 @@
 //! Writing a log.
 ghost use Rattle.std.specs.Prelude.{◌≡◌, ◌<◌, ◌≤◌, ◌+◌, ◌^◌, ◌++◌, OnOk, IfOk, length};
-ghost use Rattle.srr_text.specs.Bounds.{IsInBounds};
-ghost use Rattle.srr_log2.specs.Lengths.{AreShortLists};
+ghost use Rattle.srr_log.specs.Bounds.{IsInBounds};
+ghost use Rattle.srr_log2.specs.inside.Lengths.{AreShortLists};
 ghost use Rattle.srr_log2.specs.LogBytes.{bits_from, body_bytes, group_bytes, head_bytes, lists_bytes, log_bytes, program_bytes};
 
 use crate::entry_bytes::{push_byte, push_list, push_word};
 use byteorder::{BigEndian, ByteOrder};
+use mpi_call::limits::MOST_RANKS;
 use sha2::{Digest, Sha256};
 use srr_entry::log::{Entries, Log};
 use std::alloc::{AllocError, Global};
@@ -26,7 +27,7 @@ fn push_lists(out: &mut Bytes, lists: &[Entries]) -> Result<(), AllocError>
 
 /// A number with a bit for each of `count` ranks from the `first` on, set where the rank is in the group.
 fn bits_from(group: &[u8], first: u8, count: u8) -> u64
-    requires { (count ≤ 64) × (first + count < 2 ^ 8) }
+    requires { (count ≤ MOST_RANKS) × (first + count < 2 ^ 8) }
     ensures number { result ≡ bits_from count first group.now }
     ensures fits { result < 2 ^ count }
 {
@@ -44,7 +45,7 @@ fn push_group(out: &mut Bytes, group: &[u8]) -> Result<(), AllocError>
     ensures { OnOk result (out.new ≡ out.old ++ group_bytes group.now) }
 {
     let mut bytes = [0u8; 8];
-    BigEndian::write_u64(&mut bytes, bits_from(group, 0, 64));
+    BigEndian::write_u64(&mut bytes, bits_from(group, 0, MOST_RANKS));
     push_text(out, &bytes)
 }
 

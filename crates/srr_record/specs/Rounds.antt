@@ -6,7 +6,7 @@ use Rattle.run_model.specs.Serial.{Stage, attempts, call_after, rounds}
 use Rattle.run_model.specs.Views.{Next, view_of}
 use Rattle.picked_runs.specs.declared.turn.Turn.{Turn}
 use Rattle.picked_runs.specs.Turns.{take_turns}
-use Rattle.mpi_machine.specs.Turns.{MachineState, StandsAt}
+use Rattle.mpi_machine.specs.Turns.{MachineState, IsAtStage}
 
 -- no rank makes a further call
 abbrev pub HaveEnded : Next → ℕ → List Event → Type 0
@@ -21,14 +21,14 @@ pub record GoesBy {P : Type 0} (next : Next) (turns : List ℕ) (before after : 
   pub program : after.program ≡ before.program
   pub ranks : after.ranks ≡ before.ranks
   pub longer : IsPrefixOf before.events after.events
-  pub stands : (stage : Stage) → StandsAt before stage → StandsAt after (attempts next before.ranks stage turns)
+  pub stands : (stage : Stage) → IsAtStage before stage → IsAtStage after (attempts next before.ranks stage turns)
 
 -- the machine went on by these turns in order
 pub record GoesByTurns {P : Type 0} (next : Next) (turns : List Turn) (before after : MachineState P) : Type 0 where
   pub program : after.program ≡ before.program
   pub ranks : after.ranks ≡ before.ranks
   pub longer : IsPrefixOf before.events after.events
-  pub stands : (stage : Stage) → StandsAt before stage → StandsAt after (take_turns next before.ranks stage turns)
+  pub stands : (stage : Stage) → IsAtStage before stage → IsAtStage after (take_turns next before.ranks stage turns)
 
 -- the machine went on by some rounds over all ranks
 pub record GoesByRounds {P : Type 0} (next : Next) (before after : MachineState P) : Type 0 where
@@ -36,10 +36,10 @@ pub record GoesByRounds {P : Type 0} (next : Next) (before after : MachineState 
   pub ranks : after.ranks ≡ before.ranks
   pub longer : IsPrefixOf before.events after.events
   pub count : ℕ
-  pub stands : (stage : Stage) → StandsAt before stage → StandsAt after (rounds next before.ranks count stage)
+  pub stands : (stage : Stage) → IsAtStage before stage → IsAtStage after (rounds next before.ranks count stage)
 
 -- the events of rounds from a stage on, as many as it takes until no rank is live
-pub record AreRounds (next : Next) (n : ℕ) (stage : Stage) (events : List Event) : Type 0 where
+pub record AreRecordedRounds (next : Next) (n : ℕ) (stage : Stage) (events : List Event) : Type 0 where
   pub count : ℕ
   pub made : (rounds next n count stage).events ≡ events
   pub ended : HaveEnded next n events

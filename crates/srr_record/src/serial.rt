@@ -1,15 +1,15 @@
 //! A whole recording on one thread.
 ghost use Rattle.std.specs.Prelude.{◌≡◌, ◌<◌, ◌++◌, ◌∷◌, [], false, All, IfOk, OnOk, map, true};
 ghost use Rattle.group_plan.specs.Plans.{number_of_ranks};
-ghost use Rattle.mpi_machine.specs.Turns.{StandsAt};
+ghost use Rattle.mpi_machine.specs.Turns.{IsAtStage};
 ghost use Rattle.run_model.specs.Due.{halted};
 ghost use Rattle.run_model.specs.Endings.{ending_by};
 ghost use Rattle.run_model.specs.Lists.{IsPrefixOf, world};
 ghost use Rattle.run_model.specs.Serial.{Stage};
 ghost use Rattle.srr_entry.specs.Entries.{log_of};
-ghost use Rattle.srr_record.specs.Recordings.{AreRuns, IsRecorded, IsRecording};
+ghost use Rattle.srr_record.specs.Recordings.{AreRuns, IsRecorded, IsRecording, recording_with};
 ghost use Rattle.srr_entry.specs.Outputs.{printed_of};
-ghost use Rattle.srr_record.specs.Rounds.{AreRounds};
+ghost use Rattle.srr_record.specs.Rounds.{AreRecordedRounds};
 
 use crate::recording::Recording;
 use crate::rounds::{make_rounds, take_turns};
@@ -39,7 +39,7 @@ pub fn record_serial<P: Program, R: RankRun<Of = P>>(
 ) -> Result<Recording, AllocError>
     requires runs { AreRuns R.standing program.now (number_of_ranks plan.now) [] runs.items }
     requires turns { All (λ turn. turn.rank < number_of_ranks plan.now) turns.now }
-    ensures { IfOk result (λ recording. IsRecording (P.next program.now) (P.output program.now) (number_of_ranks plan.now) text.now plan.now turns.now recording) }
+    ensures { IfOk result (λ recording. IsRecording (P.next program.now) (P.output program.now) (number_of_ranks plan.now) (recording_with text.now plan.now turns.now) recording) }
 {
     let ranks = plan.n();
     // A law: a run whose order and picks are the turns, without a Stuck reply, begins their run.
@@ -61,7 +61,7 @@ pub fn finish_record<P: Program, R: RankRun<Of = P>>(
     requires ranks { number_of_ranks plan.now ≡ machine.ranks }
     requires runs { AreRuns R.standing machine.program machine.ranks machine.events runs.items }
     ensures begins { IfOk result (λ recording. IsPrefixOf machine.entry.events recording.history.events) }
-    ensures rounds { IfOk result (λ recording. (stage : Stage) → StandsAt machine.entry stage → AreRounds (P.next machine.entry.program) machine.entry.ranks stage recording.history.events) }
+    ensures rounds { IfOk result (λ recording. (stage : Stage) → IsAtStage machine.entry stage → AreRecordedRounds (P.next machine.entry.program) machine.entry.ranks stage recording.history.events) }
     ensures recorded { IfOk result (λ recording. IsRecorded (P.next machine.entry.program) (P.output machine.entry.program) machine.entry.ranks text.now plan.now recording) }
 {
     finish(alloc, machine, text, plan, runs.as_mut_slice())
@@ -77,7 +77,7 @@ fn finish<P: Program, R: RankRun<Of = P>>(
     requires ranks { number_of_ranks plan.now ≡ machine.ranks }
     requires runs { AreRuns R.standing machine.program machine.ranks machine.events runs.old }
     ensures begins { IfOk result (λ recording. IsPrefixOf machine.entry.events recording.history.events) }
-    ensures rounds { IfOk result (λ recording. (stage : Stage) → StandsAt machine.entry stage → AreRounds (P.next machine.entry.program) machine.entry.ranks stage recording.history.events) }
+    ensures rounds { IfOk result (λ recording. (stage : Stage) → IsAtStage machine.entry stage → AreRecordedRounds (P.next machine.entry.program) machine.entry.ranks stage recording.history.events) }
     ensures recorded { IfOk result (λ recording. IsRecorded (P.next machine.entry.program) (P.output machine.entry.program) machine.entry.ranks text.now plan.now recording) }
 {
     make_rounds(&mut machine, runs)?;

@@ -13,10 +13,10 @@ use Rattle.srr_entry.specs.declared.entry.Entry.{Entry}
 use Rattle.srr_entry.specs.declared.log.Log.{Log}
 use Rattle.srr_entry.specs.Entries.{entries_from, log_of}
 use Rattle.replay_model.specs.Laws.{IsRunWith}
-use Rattle.replay_model.specs.Replays.{Breakpoint, IsStep, IsWholeReplay, Replays}
+use Rattle.replay_model.specs.Replays.{Breakpoint, IsReplayStep, IsWholeReplay, Replays}
 use Rattle.replay_model.proofs.Cut.{whole_views}
 use Rattle.srr_regroup.specs.Joining.{CanJoin}
-use Rattle.srr_regroup.specs.Regrouping.{IsPartOf, are_within, both_groups, joined, refined}
+use Rattle.srr_regroup.specs.Regrouping.{IsPartOf, are_within, both_groups, joined_log, refined}
 
 same_lists : {A B : Type 0} (f g : A → B) (xs : List A) → All (λ x. f x ≡ g x) xs → map f xs ≡ map g xs
 same_lists f g [] all = refl
@@ -48,7 +48,7 @@ refined_is next log events run part lawful whole is with_log =
 
 -- no rank outside the group has a step
 alone_more : (next : Next) (log : Log) (stop : Breakpoint) (rank : ℕ) → is_member log.group rank ≡ false
-    → (before : List Event) (event : Event) → view_of before rank ≡ [] → IsStep next log stop before event → view_of (before ++ event ∷ []) rank ≡ []
+    → (before : List Event) (event : Event) → view_of before rank ≡ [] → IsReplayStep next log stop before event → view_of (before ++ event ∷ []) rank ≡ []
 alone_more next log stop rank other before event none step =
     elim (test_cases (event.rank == rank)) [
       | inl h ↦ (
@@ -61,7 +61,7 @@ alone_more next log stop rank other before event none step =
 pub alone : (next : Next) (log : Log) (stop : Breakpoint) (events : List Event) (rank : ℕ) → Replays next log stop events
     → is_member log.group rank ≡ false → view_of events rank ≡ []
 alone next log stop events rank all other =
-    Along-keeps (IsStep next log stop) (λ before. view_of before rank ≡ []) (alone_more next log stop rank other) [] events refl all
+    Along-keeps (IsReplayStep next log stop) (λ before. view_of before rank ≡ []) (alone_more next log stop rank other) [] events refl all
 
 -- the view of a rank of one group, and of a rank of the other
 pub first_view : (next : Next) (log : Log) (stop : Breakpoint) (first second : List Event) (rank : ℕ) → Replays next log stop second
@@ -93,7 +93,7 @@ both_views next one two first second run rank lawful can whole other_whole with_
 
 pub joined_is : (next : Next) (one two : Log) (first second run : List Event) → Lawful next → CanJoin one two
     → IsWholeReplay next one None first → IsWholeReplay next two None second → IsRunWith next one run → IsRunWith next two run
-    → joined one first two second ≡ log_of one.program one.ranks run (both_groups one two)
+    → joined_log one first two second ≡ log_of one.program one.ranks run (both_groups one two)
 joined_is next one two first second run lawful can whole other_whole with_one with_two =
     let p : ℕ → Bool = λ rank. is_member one.group rank || is_member two.group rank in
     same_log one.program one.ranks (first ++ second) run (both_groups one two)

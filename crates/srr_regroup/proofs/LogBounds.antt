@@ -11,7 +11,7 @@ use Rattle.mpi_call.specs.Collectives.{is_member}
 use Rattle.mpi_call.specs.Lists.{Rises}
 use Rattle.run_model.specs.declared.event.Event.{Event}
 use Rattle.run_model.specs.Lists.{are_below, world}
-use Rattle.run_model.specs.Program.{AsksInBounds, EntersInForm, IsRankOf, IsSeen, IsViewOf}
+use Rattle.run_model.specs.Program.{AsksInBounds, EntersInForm, IsRankOf, IsNextSeen, IsViewOf}
 use Rattle.run_model.specs.Views.{Next, View, view_of}
 use Rattle.run_model.proofs.Along.{Along-back, Along-front, Along-keeps}
 use Rattle.run_model.proofs.MemberLists.{below_part}
@@ -22,19 +22,19 @@ use Rattle.run_model.proofs.Views.{test_cases, view_of-other, view_of-own}
 use Rattle.srr_entry.specs.declared.entry.Entry.{Entry}
 use Rattle.srr_entry.specs.declared.log.Log.{Log}
 use Rattle.srr_entry.specs.Entries.{entries_for, entries_from, entry_of}
-use Rattle.srr_text.specs.Bounds.{AreEntries, IsEntry, IsGroup, IsInBounds, IsList, is_last}
+use Rattle.srr_log.specs.Bounds.{AreEntries, IsEntry, IsGroup, IsInBounds, IsList, is_last}
 use Rattle.log_bounds.specs.RunBounds.{ReplyFits32, RepliesFit32}
 use Rattle.log_bounds.proofs.RunEntries.{length-entries, send_bounds}
 use Rattle.replay_model.specs.declared.step.Step.TheVariants.{Diverged, Replied}
-use Rattle.replay_model.specs.Filling.{filled}
-use Rattle.replay_model.specs.Fits.{fits}
-use Rattle.replay_model.specs.Replays.{IsStep, Replays, entry_answer}
+use Rattle.replay_model.specs.Filling.{asker_of, filled_reply}
+use Rattle.replay_model.specs.Fits.{entry_fits}
+use Rattle.replay_model.specs.Replays.{IsReplayStep, Replays, entry_answer}
 use Rattle.replay_model.proofs.Confluence.{step_in}
 use Rattle.replay_model.proofs.Prefix.{answer-replied, entry-replied}
 use Rattle.srr_replay.specs.Rounds.{IsReplayable}
 use Rattle.srr_replay.proofs.LogLemmas.{below_at}
 use Rattle.srr_replay.proofs.ReplaysLemmas.{Came, Came-Replays}
-use Rattle.srr_regroup.specs.Regrouping.{CanBeJoined, IsPartOf, IsReplayOfAProgram, both_groups, joined, refined}
+use Rattle.srr_regroup.specs.Regrouping.{CanBeJoined, IsPartOf, IsReplayOfAProgram, both_groups, joined_log, refined}
 use Rattle.srr_regroup.proofs.Groups.{all_within}
 use Rattle.srr_regroup.proofs.Made.{AreMade, all_in_both, first_entries, other_member, second_entries, within_member}
 use Rattle.srr_regroup.proofs.MarkBounds.{AreSendsBound}
@@ -72,14 +72,14 @@ list_of n group (m ∷ all) (list ∷ lists) rank there many are =
 record Answered (n : ℕ) (inside : List ℕ) (V : ℕ → View) (own : View) (me : ℕ) (call : Call) (found : Option Entry) (reply : Reply) : Type 0 where
   entry : Entry
   there : found ≡ Some entry
-  fit : fits n inside me own call entry ≡ true
-  made : filled n V me own call entry ≡ Ok reply
+  fit : entry_fits n inside me own call entry ≡ true
+  made : filled_reply n V me own call entry ≡ Ok reply
 
 answered : (n : ℕ) (inside : List ℕ) (V : ℕ → View) (own : View) (me : ℕ) (call : Call) (found : Option Entry) (reply : Reply)
-    → entry_answer n inside V me own call found ≡ Replied reply → Answered n inside V own me call found reply
+    → entry_answer inside V (asker_of n me own) call found ≡ Replied reply → Answered n inside V own me call found reply
 answered n inside V own me call None reply h = absurd (cc)
 answered n inside V own me call (Some entry) reply h =
-    elim (test_cases (fits n inside me own call entry)) [
+    elim (test_cases (entry_fits n inside me own call entry)) [
       | inl t ↦ record { entry = entry; there = refl; fit = t; made = entry-replied n inside V own me call entry reply h }
       | inr t ↦ absurd (let no : Diverged (record { rank = me; call_number = length own; entry = entry; call = call; found = None }) ≡ Replied reply = rw t at h in cc)
     ]
@@ -97,7 +97,7 @@ at_place next log events rank own call reply rest all whole =
 
 -- no more calls than entries
 short_more : (next : Next) (log : Log) (rank : ℕ) (before : List Event) (event : Event) → length (view_of before rank) ≤ length (entries_in log rank)
-    → IsStep next log None before event → length (view_of (before ++ event ∷ []) rank) ≤ length (entries_in log rank)
+    → IsReplayStep next log None before event → length (view_of (before ++ event ∷ []) rank) ≤ length (entries_in log rank)
 short_more next log rank before event short step =
     elim (test_cases (event.rank == rank)) [
       | inl t ↦ (
@@ -166,8 +166,8 @@ given_at : (next : Next) (log : Log) (events : List Event) (group : List ℕ) (r
 given_at next log events group rank own call reply rest s mine there whole =
     let F : View → Type 0 = λ v. IsViewOf next log.ranks rank v in
     let came = subst F whole (s.came.views rank) in
-    let before = Along-front (IsSeen next log.ranks rank) [] own ((call, reply) ∷ rest) came in
-    let seen = (Along-back (IsSeen next log.ranks rank) [] own ((call, reply) ∷ rest) came).0 in
+    let before = Along-front (IsNextSeen next log.ranks rank) [] own ((call, reply) ∷ rest) came in
+    let seen = (Along-back (IsNextSeen next log.ranks rank) [] own ((call, reply) ∷ rest) came).0 in
     record {
       few = s.fine.few;
       mine = there;
@@ -215,7 +215,7 @@ entries_bound next log events group rank s mine there own ((call, reply) ∷ vie
 list_bound : (next : Next) (log : Log) (events : List Event) (group : List ℕ) (rank : ℕ) → Sound next log events → is_member log.group rank ≡ true
     → is_member group rank ≡ true → IsList log.ranks group (entries_from log.ranks group rank [] (view_of events rank))
 list_bound next log events group rank s mine there =
-    let short = Along-keeps (IsStep next log None) (λ before. length (view_of before rank) ≤ length (entries_in log rank)) (short_more next log rank) [] events (omega arith) s.replays in
+    let short = Along-keeps (IsReplayStep next log None) (λ before. length (view_of before rank) ≤ length (entries_in log rank)) (short_more next log rank) [] events (omega arith) s.replays in
     let most = (mine_in next log events rank s mine).0 in
     let same = length-entries log.ranks group rank [] (view_of events rank) in
     (omega (arith, short, most, same), entries_bound next log events group rank s mine there [] (view_of events rank) refl)
@@ -308,7 +308,7 @@ both_list one first two second rank can s t among there =
 
 -- the log of both groups
 pub joined_bound : (one : Log) (first : List Event) (two : Log) (second : List Event) → CanBeJoined one first two second → IsInBounds one → IsInBounds two
-    → RepliesFit32 first → RepliesFit32 second → IsInBounds (joined one first two second)
+    → RepliesFit32 first → RepliesFit32 second → IsInBounds (joined_log one first two second)
 joined_bound one first two second can bounds other_bounds words other_words =
     let s = sound one first bounds can.first_log can.first_replay words in
     let t = sound two second other_bounds can.second_log can.second_replay other_words in
@@ -330,7 +330,7 @@ pub join_bound : (one : Log) (first : List Event) (two : Log) (second : List Eve
     → IsInBounds (record { ranks = one.ranks; group = group; program = program; lists = lists })
 join_bound one first two second group program lists (x ∷ rest) can bounds other_bounds words other_words group_is program_is are few = absurd (omega (arith, few))
 join_bound one first two second group program lists [] can bounds other_bounds words other_words group_is program_is are few =
-    let made : List (List Entry) = (joined one first two second).lists in
+    let made : List (List Entry) = (joined_log one first two second).lists in
     let lists_are : lists ≡ made = sym (append-nil lists) ∙ are.made in
     let G : List ℕ → Type 0 = λ g. IsInBounds (record { ranks = one.ranks; group = g; program = one.program; lists = made }) in
     let L : List (List Entry) → Type 0 = λ l. IsInBounds (record { ranks = one.ranks; group = group; program = one.program; lists = l }) in

@@ -9,7 +9,7 @@ use Rattle.mpi_call.specs.declared.reply.Got.TheVariants.{Joined, Made, Message,
 use Rattle.mpi_call.specs.declared.reply.Item.{Item}
 use Rattle.mpi_call.specs.Calls.{comm_of}
 use Rattle.mpi_call.specs.Collectives.{is_member, members_made, result_of}
-use Rattle.run_model.specs.Communicators.{members_in}
+use Rattle.run_model.specs.Communicators.{members_for_rank}
 use Rattle.run_model.specs.Forms.{IsInOrder}
 use Rattle.run_model.specs.Inputs.{inputs_of}
 use Rattle.run_model.specs.Shape.{got_fits, gots_fit}
@@ -18,12 +18,12 @@ use Rattle.run_model.proofs.Views.{test_cases}
 use Rattle.srr_entry.specs.declared.entry.Mark.{Mark}
 use Rattle.srr_entry.specs.declared.entry.Mark.TheVariants.{Inner, Inside, Made as MarkMade, MadeOutside, Nothing as MarkNothing, Outer, Outside, Sent as MarkSent}
 use Rattle.srr_entry.specs.declared.entry.Marked.{Marked}
-use Rattle.srr_entry.specs.Entries.{mark_of, marks_of}
-use Rattle.srr_text.specs.Bounds.{IsMark}
+use Rattle.srr_entry.specs.Entries.{mark_of_got, marks_of_items}
+use Rattle.srr_log.specs.Bounds.{IsMark}
 use Rattle.log_bounds.specs.RunBounds.{GotFits32}
 use Rattle.log_bounds.proofs.RunMarks.{IsGotBound, IsItem, mark_bound}
 use Rattle.replay_model.specs.declared.step.Missing.{Missing}
-use Rattle.replay_model.specs.Filling.{fill_inner, fill_made, fill_mark, fill_marks, joined, made_new, message_from, push_item}
+use Rattle.replay_model.specs.Filling.{asker_of, fill_inner, fill_made, fill_mark, fill_marks, filled_message, joined_result, made_new, push_item}
 
 -- the tags and lengths of what ranks have sent
 pub record AreSendsBound (V : ℕ → View) : Type 0 where
@@ -32,7 +32,7 @@ pub record AreSendsBound (V : ℕ → View) : Type 0 where
 
 -- a message from inside has the bounds of its Send
 inside_bound : (n : ℕ) (V : ℕ → View) (source start : ℕ) (found : Option Call) (got : Got) → AreSendsBound V → source < n → start ≤ 999999
-    → start_at (V source) start ≡ found → message_from source start found ≡ Ok got → IsGotBound n got
+    → start_at (V source) start ≡ found → filled_message source start found ≡ Ok got → IsGotBound n got
 inside_bound n V source start None got sends below small at h = absurd (cc)
 inside_bound n V source start (Some (Send c d tag ints sync)) got sends below small at h =
     let same : Message source start tag ints ≡ got = cc in
@@ -41,23 +41,23 @@ inside_bound n V source start (Some (Send c d tag ints sync)) got sends below sm
 inside_bound n V source start (Some call) got sends below small at h =
     (let same : Nothing ≡ got = cc in subst (IsGotBound n) same tt)
 
-joined_bound : (n : ℕ) (own : View) (me k : ℕ) (enter : Call) (inputs : Result (List (List ℤ)) ℕ) (got : Got) → joined n me own k enter inputs ≡ Ok got
+joined_bound : (n : ℕ) (own : View) (me k : ℕ) (enter : Call) (inputs : Result (List (List ℤ)) ℕ) (got : Got) → joined_result n me own k enter inputs ≡ Ok got
     → IsGotBound n got
 joined_bound n own me k enter (Err m) got h = absurd (cc)
 joined_bound n own me k enter (Ok inputs) got h =
-    (let same : Joined (result_of enter (members_in n own (comm_of enter)) inputs me) ≡ got = cc in subst (IsGotBound n) same tt)
+    (let same : Joined (result_of enter (members_for_rank n own (comm_of enter)) inputs me) ≡ got = cc in subst (IsGotBound n) same tt)
 
 inner_bound : (n : ℕ) (V : ℕ → View) (own : View) (me k : ℕ) (start : Option Call) (got : Got) → fill_inner n V me own k start ≡ Ok got → IsGotBound n got
 inner_bound n V own me k None got h = (let same : Nothing ≡ got = cc in subst (IsGotBound n) same tt)
 inner_bound n V own me k (Some enter) got h = joined_bound n own me k enter (inputs_of n V me own k enter) got h
 
 new_bound : (comm n : ℕ) (own : View) (me k : ℕ) (enter : Call) (inputs : Result (List (List ℤ)) ℕ) (got : Got) → comm ≤ 999999
-    → made_new comm n me own k enter inputs ≡ Ok got → IsGotBound n got
+    → made_new comm (asker_of n me own) k enter inputs ≡ Ok got → IsGotBound n got
 new_bound comm n own me k enter (Err m) got small h = absurd (cc)
 new_bound comm n own me k enter (Ok inputs) got small h =
-    (let same : Made comm (members_made enter (members_in n own (comm_of enter)) inputs me) ≡ got = cc in subst (IsGotBound n) same small)
+    (let same : Made comm (members_made enter (members_for_rank n own (comm_of enter)) inputs me) ≡ got = cc in subst (IsGotBound n) same small)
 
-made_bound : (comm n : ℕ) (V : ℕ → View) (own : View) (me k : ℕ) (start : Option Call) (got : Got) → comm ≤ 999999 → fill_made comm n V me own k start ≡ Ok got
+made_bound : (comm n : ℕ) (V : ℕ → View) (own : View) (me k : ℕ) (start : Option Call) (got : Got) → comm ≤ 999999 → fill_made comm V (asker_of n me own) k start ≡ Ok got
     → IsGotBound n got
 made_bound comm n V own me k None got small h = (let same : Nothing ≡ got = cc in subst (IsGotBound n) same tt)
 made_bound comm n V own me k (Some enter) got small h = new_bound comm n own me k enter (inputs_of n V me own k enter) got small h
@@ -111,10 +111,10 @@ record AreGiven (n : ℕ) (own : View) (me : ℕ) (starts : List ℕ) (items : L
 
 pub items_bound : (n : ℕ) (inside group : List ℕ) (V : ℕ → View) (own : View) (me : ℕ) (starts : List ℕ) (marks : List Marked) (items : List Item)
     → n ≤ 64 → is_member group me ≡ true → IsInOrder n me own → AreSendsBound V → All (IsItem n inside) marks → fill_marks n V me own starts marks ≡ Ok items
-    → gots_fit n me own starts items ≡ true → All (λ (item : Item). GotFits32 item.got) items → AreItems n group marks (marks_of n group me own starts items)
+    → gots_fit n me own starts items ≡ true → All (λ (item : Item). GotFits32 item.got) items → AreItems n group marks (marks_of_items n group me own starts items)
 items_bound n inside group V own me starts [] items few mine order sends are h fit words =
     let none : [] ≡ items = cc in
-    let F : List Item → Type 0 = λ l. AreItems n group [] (marks_of n group me own starts l) in
+    let F : List Item → Type 0 = λ l. AreItems n group [] (marks_of_items n group me own starts l) in
     subst F none (record { indices = refl; many = refl; each = All-nil (IsItem n group) })
 items_bound n inside group V own me starts (marked ∷ marks) items few mine order sends are h fit words =
     let k : ℕ = slice_index starts marked.index in
@@ -127,9 +127,9 @@ items_bound n inside group V own me starts (marked ∷ marks) items few mine ord
     let bound = got_bound n inside V own me k marked.mark p.got sends here.1 p.first_is in
     let later = items_bound n inside group V own me starts marks p.rest few mine order sends (All-tail (IsItem n inside) marked marks are) p.others_are fits.1 (All-tail (λ (item : Item). GotFits32 item.got) item p.rest given.words) in
     let mark = mark_bound n group me own k p.got few mine order bound fits.0 (given.words 0 item (omega arith)) in
-    let F : List Item → Type 0 = λ l. AreItems n group (marked ∷ marks) (marks_of n group me own starts l) in
+    let F : List Item → Type 0 = λ l. AreItems n group (marked ∷ marks) (marks_of_items n group me own starts l) in
     subst F p.all (record {
       indices = ap (λ (l : List ℕ). marked.index ∷ l) later.indices;
       many = ap suc later.many;
-      each = All-cons (IsItem n group) (record { index = marked.index; mark = mark_of n group me own k p.got }) (marks_of n group me own starts p.rest) (here.0, mark) later.each;
+      each = All-cons (IsItem n group) (record { index = marked.index; mark = mark_of_got n group me own k p.got }) (marks_of_items n group me own starts p.rest) (here.0, mark) later.each;
     })

@@ -15,12 +15,12 @@ use Rattle.srr_entry.specs.declared.entry.Entry.{Entry}
 use Rattle.srr_entry.specs.declared.entry.Entry.TheVariants.{Ended, Entered, NotYet as EntryNotYet, PeekedInside, PeekedOutside, Posted, Sent, Stopped as EntryStopped, Took as EntryTook}
 use Rattle.srr_entry.specs.declared.entry.Marked.{Marked}
 use Rattle.srr_entry.specs.Entries.{entry_of}
-use Rattle.srr_text.specs.Bounds.{IsEntry, is_last}
+use Rattle.srr_log.specs.Bounds.{IsEntry, is_last}
 use Rattle.log_bounds.specs.RunBounds.{ReplyFits32}
 use Rattle.log_bounds.proofs.RunEntries.{done_entry, peeked_entry, peeked_last}
 use Rattle.replay_model.specs.declared.step.Missing.{Missing}
-use Rattle.replay_model.specs.Filling.{as_took, fill_marks, filled, peeked_from}
-use Rattle.replay_model.specs.Fits.{fits}
+use Rattle.replay_model.specs.Filling.{as_took, fill_marks, filled_reply, peeked_from}
+use Rattle.replay_model.specs.Fits.{entry_fits}
 use Rattle.replay_model.proofs.ShapedFits.{take_shape}
 use Rattle.srr_regroup.proofs.MarkBounds.{AreSendsBound, items_bound}
 
@@ -81,7 +81,7 @@ took_bound n inside group V own me call marks items g is made =
 
 -- an entry within the bounds of a log stands for a reply whose entry for another group is within its bounds
 pub entry_bound : (n : ℕ) (inside group : List ℕ) (V : ℕ → View) (own : View) (me : ℕ) (call : Call) (entry : Entry) (reply : Reply)
-    → Given n group V own me call reply → IsEntry n inside entry → filled n V me own call entry ≡ Ok reply → IsReplyBound n group me own call reply
+    → Given n group V own me call reply → IsEntry n inside entry → filled_reply n V me own call entry ≡ Ok reply → IsReplyBound n group me own call reply
 entry_bound n inside group V own me call Sent reply g is made = (let same : Done ≡ reply = cc in subst (IsReplyBound n group me own call) same (done_entry n group call))
 entry_bound n inside group V own me call Posted reply g is made = (let same : Done ≡ reply = cc in subst (IsReplyBound n group me own call) same (done_entry n group call))
 entry_bound n inside group V own me call Entered reply g is made = (let same : Done ≡ reply = cc in subst (IsReplyBound n group me own call) same (done_entry n group call))
@@ -119,8 +119,8 @@ not_last n group own me call given reply same going last =
     absurd (let no : true ≡ false = sym given_last ∙ going in cc)
 
 pub last_entry : (n : ℕ) (inside group : List ℕ) (V : ℕ → View) (own : View) (me : ℕ) (call : Call) (entry : Entry) (reply : Reply)
-    → fits n inside me own call entry ≡ true → filled n V me own call entry ≡ Ok reply → is_last (entry_of n group me own call reply) ≡ true → is_last entry ≡ true
-unfolding fits
+    → entry_fits n inside me own call entry ≡ true → filled_reply n V me own call entry ≡ Ok reply → is_last (entry_of n group me own call reply) ≡ true → is_last entry ≡ true
+unfolding entry_fits
 last_entry n inside group V own me call (EntryStopped halt) reply fit made last = refl
 last_entry n inside group V own me call Ended reply fit made last = refl
 last_entry n inside group V own me (Send comm dest tag ints sync) Sent reply fit made last = not_last n group own me (Send comm dest tag ints sync) Done reply (cc) refl last

@@ -39,8 +39,8 @@ abbrev pub both_groups : Log → Log → List ℕ
 both_groups one two = filter (λ rank. is_member one.group rank || is_member two.group rank) (world one.ranks 0)
 
 -- the log of both groups together, from a replay of each
-abbrev pub joined : Log → List Event → Log → List Event → Log
-joined one first two second = log_of one.program one.ranks (first ++ second) (both_groups one two)
+abbrev pub joined_log : Log → List Event → Log → List Event → Log
+joined_log one first two second = log_of one.program one.ranks (first ++ second) (both_groups one two)
 
 -- two logs that can be joined, with a replay of each
 pub record CanBeJoined (one : Log) (first : List Event) (two : Log) (second : List Event) : Type 0 where

@@ -3,9 +3,9 @@ ghost use Rattle.std.specs.Prelude.{◌≡◌, ◌++◌, ◌||◌, [], ℕ, IfEr
 ghost use Rattle.mpi_call.specs.Collectives.{is_member};
 ghost use Rattle.run_model.specs.Views.{view_of};
 ghost use Rattle.srr_entry.specs.Entries.{entries_from};
-ghost use Rattle.srr_text.specs.Bounds.{IsInBounds};
+ghost use Rattle.srr_log.specs.Bounds.{IsInBounds};
 ghost use Rattle.srr_regroup.specs.Joining.{CanJoin, IsJoinFault, IsLeastShared, lesser_shared};
-ghost use Rattle.srr_regroup.specs.Regrouping.{CanBeJoined, both_groups, joined};
+ghost use Rattle.srr_regroup.specs.Regrouping.{CanBeJoined, both_groups, joined_log};
 
 use crate::join_fault::JoinFault;
 use log_bounds::ints32::replies_fit;
@@ -48,7 +48,7 @@ pub fn join(
     second: &Replayed,
 ) -> Result<Log, AllocError>
     requires { CanBeJoined one.now first.now.events.events two.now second.now.events.events }
-    ensures log { IfOk result (λ made. made ≡ joined one.now first.now.events.events two.now second.now.events.events) }
+    ensures log { IfOk result (λ made. made ≡ joined_log one.now first.now.events.events two.now second.now.events.events) }
     ensures in_bounds { IsInBounds one.now → IsInBounds two.now → IfOk result (λ made. IsInBounds made) }
 {
     replies_fit(first.events.as_slice());

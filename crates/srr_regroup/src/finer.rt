@@ -3,7 +3,7 @@ ghost use Rattle.std.specs.Prelude.{◌≡◌, ◌<◌, ℕ, [], IfErr, IfOk, On
 ghost use Rattle.std.specs.List.{list_any, slice_index_or};
 ghost use Rattle.mpi_call.specs.Collectives.{is_member};
 ghost use Rattle.srr_replay.specs.Rounds.{IsReplayable};
-ghost use Rattle.srr_text.specs.Bounds.{IsInBounds};
+ghost use Rattle.srr_log.specs.Bounds.{IsInBounds};
 ghost use Rattle.srr_regroup.specs.Refining.{CanRefine, IsLeastCrossing, IsRefineFault, crosses};
 ghost use Rattle.srr_regroup.specs.Regrouping.{IsPartOf, IsReplayOfAProgram, are_within, refined};
 

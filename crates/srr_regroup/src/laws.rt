@@ -6,7 +6,7 @@ ghost use Rattle.srr_entry.specs.Entries.{log_of};
 ghost use Rattle.replay_model.specs.Laws.{IsRunWith};
 ghost use Rattle.replay_model.specs.Replays.{IsWholeReplay};
 ghost use Rattle.srr_regroup.specs.Joining.{CanJoin};
-ghost use Rattle.srr_regroup.specs.Regrouping.{IsPartOf, IsReplayOfAProgram, both_groups, joined, refined};
+ghost use Rattle.srr_regroup.specs.Regrouping.{IsPartOf, IsReplayOfAProgram, both_groups, joined_log, refined};
 
 use mpi_call::lists::Ranks;
 use run_model::history::History;
@@ -33,7 +33,7 @@ pub fn joined_log_is_of_the_run<P: Program>(
     requires replay { IsWholeReplay (P.next program.now) one.now None first.now.events }
     requires other_replay { IsWholeReplay (P.next program.now) two.now None second.now.events }
     ensures { (run : List Event) → IsRunWith (P.next program.now) one.now run → IsRunWith (P.next program.now) two.now run
-        → joined one.now first.now.events two.now second.now.events ≡ log_of one.now.program one.now.ranks run (both_groups one.now two.now) }
+        → joined_log one.now first.now.events two.now second.now.events ≡ log_of one.now.program one.now.ranks run (both_groups one.now two.now) }
 {}
 
 /// A whole replay with a program that keeps its laws is what regrouping asks for.

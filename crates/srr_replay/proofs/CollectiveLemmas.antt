@@ -6,7 +6,7 @@ use Rattle.mpi_call.specs.Calls.{comm_of}
 use Rattle.mpi_call.specs.Collectives.{AreInputsOf, IsEnterOf, agree, needs}
 use Rattle.mpi_call.proofs.MemberLemmas.{is_member_at}
 use Rattle.run_model.specs.declared.event.Event.{Event}
-use Rattle.run_model.specs.Communicators.{Entered, enter_at, instance_of, members_in}
+use Rattle.run_model.specs.Communicators.{Entered, enter_at, instance_of, members_for_rank}
 use Rattle.run_model.specs.Inputs.{inputs_of}
 use Rattle.run_model.specs.Lists.{same_ranks}
 use Rattle.run_model.specs.Views.{View, view_of}
@@ -16,7 +16,7 @@ use Rattle.run_model.proofs.Instances.{gather-at, gather-length}
 use Rattle.run_model.proofs.Views.{test_cases}
 use Rattle.replay_model.specs.declared.step.Found.{Found}
 use Rattle.replay_model.specs.Breaks.{break_enter, break_members, has_members, or_found}
-use Rattle.srr_replay.specs.Collectives.{IsCollective}
+use Rattle.srr_replay.specs.inside.Collectives.{IsCollective}
 use Rattle.replay_model.specs.Filling.{absent_of}
 use Rattle.srr_replay.proofs.FormLemmas.{IsInForm, in_form}
 
@@ -73,11 +73,11 @@ absent-none (Ok inputs) h = (inputs, refl)
 absent-none (Err m) h = absurd (cc)
 
 -- the gathered inputs are those of the Enter, by the table
-pub inputs_are : (n : ℕ) (events : List Event) (rank k : ℕ) (enter : Call) (inputs : List (List ℤ)) → IsCollective n events rank k enter → inputs_of n (view_of events) rank (view_of events rank) k enter ≡ Ok inputs → AreInputsOf enter (members_in n (view_of events rank) (comm_of enter)) inputs rank
+pub inputs_are : (n : ℕ) (events : List Event) (rank k : ℕ) (enter : Call) (inputs : List (List ℤ)) → IsCollective n events rank k enter → inputs_of n (view_of events) rank (view_of events rank) k enter ≡ Ok inputs → AreInputsOf enter (members_for_rank n (view_of events rank) (comm_of enter)) inputs rank
 inputs_are n events rank k enter inputs is gathered =
     let own : View = view_of events rank in
     let C : ℕ = comm_of enter in
-    let M : List ℕ = members_in n own C in
+    let M : List ℕ = members_for_rank n own C in
     let find : ℕ → Option Entered = λ m. enter_at n (view_of events m) C (instance_of own k C) in
     let form = in_form n rank own k enter (is.order.ranks rank is.below) is.start is.is in
     record {

@@ -3,12 +3,12 @@ use Rattle.std.proofs.Common.{◌<◌, ◌∙◌, ℕ, List, Option, inl, inr, s
 use Rattle.mpi_call.specs.declared.call.Call.{Call}
 use Rattle.run_model.specs.Program.{Standing}
 use Rattle.run_model.specs.Views.{Next}
-use Rattle.srr_replay.specs.Kept.{AreKept, IsKept}
+use Rattle.srr_replay.specs.inside.Kept.{AreCallsOfRuns, IsKeptCall}
 use Rattle.srr_replay.proofs.RoundsLemmas.{number_cases}
 
 -- the calls after one run was tried
 pub AreKept-set : {P R : Type 0} (next : P → Next) (standing : R → Standing P) (runs : List R) (calls : List (Option Call)) (k : ℕ) (run : R) (call : Option Call)
-    → AreKept next standing runs calls → k < length runs → IsKept next (standing run) call → AreKept next standing (set runs k run) (set calls k call)
+    → AreCallsOfRuns next standing runs calls → k < length runs → IsKeptCall next (standing run) call → AreCallsOfRuns next standing (set runs k run) (set calls k call)
 AreKept-set {P} {R} next standing runs calls k run call all lt one =
     record {
       as_many = length-set calls k call ∙ all.as_many ∙ sym (length-set runs k run);

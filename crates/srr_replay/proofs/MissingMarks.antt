@@ -11,7 +11,7 @@ use Rattle.run_model.specs.Views.{View, start_at}
 use Rattle.srr_entry.specs.declared.entry.Mark.TheVariants.{Inner, Made as MarkMade}
 use Rattle.replay_model.specs.declared.step.Missing.{Missing}
 use Rattle.replay_model.specs.declared.step.Missing.TheVariants.{Member}
-use Rattle.replay_model.specs.Filling.{absent_of, joined, made_new, missing_of, push_item}
+use Rattle.replay_model.specs.Filling.{absent_of, asker_of, joined_result, made_new, missing_of, push_item}
 use Rattle.replay_model.specs.Fits.{IsEnterAt, mark_fits}
 
 -- nothing is missing for the first item, so what is missing is missing for the others
@@ -50,11 +50,11 @@ IsEnterAt-made n group me own k comm fit = λ call is. enter_for-made n group me
 
 -- a collective waits for the first absent member
 pub missing_of-joined : (n : ℕ) (own : View) (me k : ℕ) (enter : Call) (inputs : Result (List (List ℤ)) ℕ)
-    → missing_of (joined n me own k enter inputs) ≡ option_map (λ m. Member m (comm_of enter) (instance_of own k (comm_of enter))) (absent_of inputs)
+    → missing_of (joined_result n me own k enter inputs) ≡ option_map (λ m. Member m (comm_of enter) (instance_of own k (comm_of enter))) (absent_of inputs)
 missing_of-joined n own me k enter (Ok inputs) = refl
 missing_of-joined n own me k enter (Err m) = refl
 
 pub missing_of-made : (comm n : ℕ) (own : View) (me k : ℕ) (enter : Call) (inputs : Result (List (List ℤ)) ℕ)
-    → missing_of (made_new comm n me own k enter inputs) ≡ option_map (λ m. Member m (comm_of enter) (instance_of own k (comm_of enter))) (absent_of inputs)
+    → missing_of (made_new comm (asker_of n me own) k enter inputs) ≡ option_map (λ m. Member m (comm_of enter) (instance_of own k (comm_of enter))) (absent_of inputs)
 missing_of-made comm n own me k enter (Ok inputs) = refl
 missing_of-made comm n own me k enter (Err m) = refl

@@ -8,7 +8,7 @@ use Rattle.mpi_call.specs.declared.reply.Item.{Item}
 use Rattle.mpi_call.specs.declared.reply.Reply.{Reply}
 use Rattle.mpi_call.specs.Collectives.{is_member}
 use Rattle.run_model.specs.declared.event.Event.{Event}
-use Rattle.run_model.specs.Views.{Next, View, replies_in, start_at, view_of}
+use Rattle.run_model.specs.Views.{Next, View, moment_at, replies_in, start_at, view_of}
 use Rattle.run_model.proofs.Prefixes.{Begins-more}
 use Rattle.run_model.proofs.Views.{test_cases, view_of-other}
 use Rattle.srr_entry.specs.declared.entry.Entry.{Entry}
@@ -16,10 +16,10 @@ use Rattle.srr_entry.specs.declared.entry.Entry.TheVariants.{Took}
 use Rattle.srr_entry.specs.declared.entry.Marked.{Marked}
 use Rattle.srr_entry.specs.declared.log.Log.{Log}
 use Rattle.replay_model.specs.declared.step.Missing.{Missing}
-use Rattle.replay_model.specs.Filling.{fill_mark, fill_marks, filled, missing_of, push_item}
-use Rattle.replay_model.specs.Fits.{fits, mark_fits, marks_fit}
+use Rattle.replay_model.specs.Filling.{fill_mark, fill_marks, filled_reply, missing_of, push_item}
+use Rattle.replay_model.specs.Fits.{entry_fits, mark_fits, marks_fit}
 use Rattle.replay_model.proofs.Filled.{filled-same}
-use Rattle.srr_replay.specs.Places.{ArePlaces, IsPlace, IsPlaceIn, marks_of}
+use Rattle.srr_replay.specs.Places.{ArePlaces, IsEntryPlace, IsPlaceIn, marks_of_entry}
 use Rattle.srr_replay.specs.Rounds.{IsReplayable}
 use Rattle.srr_replay.proofs.LogLemmas.{below_at, both}
 use Rattle.srr_replay.proofs.MissingMarks.{missing_of-first, missing_of-some}
@@ -96,14 +96,14 @@ found_all (Err missing) none = absurd (cc)
 
 -- another rank's event leaves a place one
 place_more : (n : ℕ) (group : List ℕ) (events : List Event) (event : Event) (rank : ℕ) (call : Call) (entry : Entry) (place : ℕ) → (event.rank == rank) ≡ false
-    → IsPlace n group events rank call entry place → IsPlace n group (events ++ event ∷ []) rank call entry place
+    → IsEntryPlace (moment_at n events rank) group call entry place → IsEntryPlace (moment_at n (events ++ event ∷ []) rank) group call entry place
 place_more n group events event rank call entry place other is =
-    let front : Entry = Took (take place (marks_of entry)) in
+    let front : Entry = Took (take place (marks_of_entry entry)) in
     let own = view_of-other events event rank other in
-    let reply = found_all (filled n (view_of events) rank (view_of events rank) call front) is.first.there in
+    let reply = found_all (filled_reply n (view_of events) rank (view_of events rank) call front) is.first.there in
     let same = filled-same n (view_of events) (view_of (events ++ event ∷ [])) (view_of events rank) rank call front reply.0 (Begins-more events (event ∷ [])) reply.1 in
-    let Fits : View → Type 0 = λ view. fits n group rank view call entry ≡ true in
-    let There : View → Type 0 = λ view. missing_of (filled n (view_of (events ++ event ∷ [])) rank view call front) ≡ None in
+    let Fits : View → Type 0 = λ view. entry_fits n group rank view call entry ≡ true in
+    let There : View → Type 0 = λ view. missing_of (filled_reply n (view_of (events ++ event ∷ [])) rank view call front) ≡ None in
     record {
       fit = subst Fits (sym own) is.fit;
       first = record {

@@ -6,15 +6,15 @@ use Rattle.mpi_call.specs.declared.reply.Reply.{Reply}
 use Rattle.mpi_call.specs.Collectives.{is_member}
 use Rattle.run_model.specs.declared.event.Event.{Event}
 use Rattle.run_model.specs.Forms.{AreInOrder}
-use Rattle.run_model.specs.Program.{AsksInBounds, EntersInForm, IsSeen, IsViewOf, MayGive}
+use Rattle.run_model.specs.Program.{AsksInBounds, EntersInForm, IsNextSeen, IsViewOf, MayGive}
 use Rattle.run_model.specs.Views.{Next, view_of, replies_in}
 use Rattle.run_model.proofs.Along.{Along-snoc, Along-keeps}
 use Rattle.run_model.proofs.Orders.{in_order, short_sends}
 use Rattle.run_model.proofs.Views.{test_cases, view_of-own, view_of-other}
 use Rattle.srr_entry.specs.declared.log.Log.{Log}
 use Rattle.replay_model.specs.declared.step.Step.TheVariants.{Replied}
-use Rattle.replay_model.specs.Replays.{Breakpoint, IsStep, Replays, answer_of, event_of}
-use Rattle.srr_replay.specs.Rounds.{AreCounts, IsReplayable}
+use Rattle.replay_model.specs.Replays.{Breakpoint, IsReplayStep, Replays, replay_answer, replied_event}
+use Rattle.srr_replay.specs.Rounds.{AreCallCounts, IsReplayable}
 use Rattle.view_tables.specs.EnterTable.{AreEntersKnown}
 use Rattle.view_tables.specs.StartTable.{TakesMade}
 use Rattle.srr_replay.proofs.LogLemmas.{below_at}
@@ -22,9 +22,9 @@ use Rattle.srr_replay.proofs.ShapeLemmas.{answer_shaped}
 use Rattle.view_tables.proofs.StartTableLemmas.{takes_made}
 
 -- the event of a reply keeps it a replay
-pub Replays-after : (next : Next) (log : Log) (stop : Breakpoint) (events : List Event) (rank : ℕ) (call : Call) (reply : Reply) → Replays next log stop events → is_member log.group rank ≡ true → next log.ranks rank (replies_in (view_of events rank)) ≡ Some call → answer_of log stop (view_of events) rank (view_of events rank) call ≡ Replied reply → Replays next log stop (events ++ event_of rank call reply ∷ [])
+pub Replays-after : (next : Next) (log : Log) (stop : Breakpoint) (events : List Event) (rank : ℕ) (call : Call) (reply : Reply) → Replays next log stop events → is_member log.group rank ≡ true → next log.ranks rank (replies_in (view_of events rank)) ≡ Some call → replay_answer log stop (view_of events) rank (view_of events rank) call ≡ Replied reply → Replays next log stop (events ++ replied_event rank call reply ∷ [])
 Replays-after next log stop events rank call reply all member asked answered =
-    Along-snoc (IsStep next log stop) [] events _ all (record { member = member; call = asked; reply = answered; mate = refl })
+    Along-snoc (IsReplayStep next log stop) [] events _ all (record { member = member; call = asked; reply = answered; mate = refl })
 
 -- each rank has got replies in shape alone, and no rank outside the group has an event
 pub record Came (next : Next) (log : Log) (events : List Event) : Type 0 where
@@ -48,7 +48,7 @@ Came-order next log events laws fine came =
       ];
     }
 
-came_more : (next : Next) (log : Log) (stop : Breakpoint) → KeepsForm next → IsReplayable log → (before : List Event) (event : Event) → Came next log before → IsStep next log stop before event → Came next log (before ++ event ∷ [])
+came_more : (next : Next) (log : Log) (stop : Breakpoint) → KeepsForm next → IsReplayable log → (before : List Event) (event : Event) → Came next log before → IsReplayStep next log stop before event → Came next log (before ++ event ∷ [])
 came_more next log stop laws fine before event came step =
     let below = below_at log.ranks log.group event.rank fine.below step.member in
     let shaped = answer_shaped log stop before event.rank event.call event.reply below (Came-order next log before laws fine came) step.member step.reply in
@@ -58,7 +58,7 @@ came_more next log stop laws fine before event came step =
             let P : ℕ → Type 0 = λ r. IsViewOf next log.ranks r (view_of (before ++ event ∷ []) r) in
             let own : P event.rank =
             rw (view_of-own before event)
-            (Along-snoc (IsSeen next log.ranks event.rank) [] (view_of before event.rank) (event.call, event.reply) (came.views event.rank)
+            (Along-snoc (IsNextSeen next log.ranks event.rank) [] (view_of before event.rank) (event.call, event.reply) (came.views event.rank)
             (record { asked = step.call; shaped = shaped })) in
             subst P (eqb-true event.rank rank h) own
         | inr h ↦ rw (view_of-other before event rank h) (came.views rank)
@@ -71,7 +71,7 @@ came_more next log stop laws fine before event came step =
 
 pub Came-Replays : (next : Next) (log : Log) (stop : Breakpoint) (events : List Event) → KeepsForm next → IsReplayable log → Replays next log stop events → Came next log events
 Came-Replays next log stop events laws fine all =
-    Along-keeps (IsStep next log stop) (Came next log) (came_more next log stop laws fine) [] events
+    Along-keeps (IsReplayStep next log stop) (Came next log) (came_more next log stop laws fine) [] events
     (record { views = λ rank. tt; alone = λ rank other. refl }) all
 
 -- so each rank's view is in order
@@ -79,7 +79,7 @@ pub AreInOrder-Replays : (next : Next) (log : Log) (stop : Breakpoint) (events :
 AreInOrder-Replays next log stop events laws fine all = Came-order next log events laws fine (Came-Replays next log stop events laws fine all)
 
 -- and the reply may be given
-pub MayGive-Replays : (next : Next) (log : Log) (stop : Breakpoint) (events : List Event) (rank : ℕ) (call : Call) (reply : Reply) → KeepsForm next → IsReplayable log → Replays next log stop events → is_member log.group rank ≡ true → next log.ranks rank (replies_in (view_of events rank)) ≡ Some call → answer_of log stop (view_of events) rank (view_of events rank) call ≡ Replied reply → MayGive next log.ranks rank (replies_in (view_of events rank)) reply
+pub MayGive-Replays : (next : Next) (log : Log) (stop : Breakpoint) (events : List Event) (rank : ℕ) (call : Call) (reply : Reply) → KeepsForm next → IsReplayable log → Replays next log stop events → is_member log.group rank ≡ true → next log.ranks rank (replies_in (view_of events rank)) ≡ Some call → replay_answer log stop (view_of events) rank (view_of events rank) call ≡ Replied reply → MayGive next log.ranks rank (replies_in (view_of events rank)) reply
 MayGive-Replays next log stop events rank call reply laws fine all mine asked answered =
     let came = Came-Replays next log stop events laws fine all in
     record {
@@ -92,7 +92,7 @@ MayGive-Replays next log stop events rank call reply laws fine all mine asked an
     }
 
 -- so it completes starts that were made alone
-pub TakesMade-Replays : (next : Next) (log : Log) (stop : Breakpoint) (events : List Event) (rank : ℕ) (call : Call) (reply : Reply) → KeepsForm next → IsReplayable log → Replays next log stop events → is_member log.group rank ≡ true → next log.ranks rank (replies_in (view_of events rank)) ≡ Some call → answer_of log stop (view_of events) rank (view_of events rank) call ≡ Replied reply → TakesMade (view_of events rank) call reply
+pub TakesMade-Replays : (next : Next) (log : Log) (stop : Breakpoint) (events : List Event) (rank : ℕ) (call : Call) (reply : Reply) → KeepsForm next → IsReplayable log → Replays next log stop events → is_member log.group rank ≡ true → next log.ranks rank (replies_in (view_of events rank)) ≡ Some call → replay_answer log stop (view_of events) rank (view_of events rank) call ≡ Replied reply → TakesMade (view_of events rank) call reply
 TakesMade-Replays next log stop events rank call reply laws fine all mine asked answered =
     let order = AreInOrder-Replays next log stop events laws fine all in
     takes_made log.ranks rank (view_of events rank) call reply
@@ -106,7 +106,7 @@ EntersKnown-Replays next log stop events laws fine all rank comm instance one be
     is.known ∙ sym is.stays
 
 -- the counts after one more event of a rank
-pub AreCounts-after : (n : ℕ) (events : List Event) (counts : List ℕ) (event : Event) → event.rank < n → AreCounts n events counts → AreCounts n (events ++ event ∷ []) (set counts event.rank (slice_index counts event.rank + 1))
+pub AreCounts-after : (n : ℕ) (events : List Event) (counts : List ℕ) (event : Event) → event.rank < n → AreCallCounts n events counts → AreCallCounts n (events ++ event ∷ []) (set counts event.rank (slice_index counts event.rank + 1))
 AreCounts-after n events counts event below each =
     let within : event.rank < length counts = omega (arith, each.0, below) in (
       length-set counts event.rank (slice_index counts event.rank + 1) ∙ each.0,

@@ -13,24 +13,24 @@ use Rattle.run_model.proofs.Prefixes.{prefix_trans}
 use Rattle.run_model.proofs.Views.{test_cases, view_of-own, view_of-other}
 use Rattle.srr_entry.specs.declared.log.Log.{Log}
 use Rattle.replay_model.specs.declared.step.Step.TheVariants.{Replied}
-use Rattle.replay_model.specs.Replays.{ReplayState, Breakpoint, IsExhausted, answer_of, event_of}
-use Rattle.srr_replay.specs.Rounds.{GrowsBy, HasNoStep, RunAll, SameReplay, attempt, attempts, rounds}
+use Rattle.replay_model.specs.Replays.{ReplayState, Breakpoint, IsExhausted, replay_answer, replied_event}
+use Rattle.srr_replay.specs.Rounds.{GrowsBy, HasNoStep, RunAll, SameReplay, replay_attempt, replay_attempts, replay_rounds}
 
 snoc-map : {A B : Type 0} (f : A → B) (xs : List A) (x : A) → map f (xs ++ x ∷ []) ≡ map f xs ++ f x ∷ []
 snoc-map f [] x = refl
 snoc-map f (y ∷ xs) x = ap (λ l. f y ∷ l) (snoc-map f xs x)
 
 -- the replies after one more event of the rank
-pub replies_in-after : (events : List Event) (rank : ℕ) (call : Call) (reply : Reply) → replies_in (view_of (events ++ event_of rank call reply ∷ []) rank) ≡ replies_in (view_of events rank) ++ reply ∷ []
+pub replies_in-after : (events : List Event) (rank : ℕ) (call : Call) (reply : Reply) → replies_in (view_of (events ++ replied_event rank call reply ∷ []) rank) ≡ replies_in (view_of events rank) ++ reply ∷ []
 replies_in-after events rank call reply =
-    rw (view_of-own events (event_of rank call reply)) (snoc-map _ (view_of events rank) (call, reply))
+    rw (view_of-own events (replied_event rank call reply)) (snoc-map _ (view_of events rank) (call, reply))
 
 -- the same replay over two steps
 pub same_on : {P : Type 0} (start before after : ReplayState P) → SameReplay start before → SameReplay before after → SameReplay start after
 same_on start before after one two = record { program = two.program ∙ one.program; log = two.log ∙ one.log; stop = two.stop ∙ one.stop }
 
 -- a run that was given the reply
-pub IsAfter-given : {P : Type 0} (program : P) (n rank : ℕ) (events : List Event) (call : Call) (reply : Reply) (before after : Standing P) → IsAfter program n rank events before → after ≡ record before { replies = before.replies ++ reply ∷ []; asked = false } → IsAfter program n rank (events ++ event_of rank call reply ∷ []) after
+pub IsAfter-given : {P : Type 0} (program : P) (n rank : ℕ) (events : List Event) (call : Call) (reply : Reply) (before after : Standing P) → IsAfter program n rank events before → after ≡ record before { replies = before.replies ++ reply ∷ []; asked = false } → IsAfter program n rank (events ++ replied_event rank call reply ∷ []) after
 IsAfter-given program n rank events call reply before after h e =
     rw e (record {
       same_program = h.same_program;
@@ -50,7 +50,7 @@ HasNoStep-ended next log stop events rank h event same step =
     let asked : next log.ranks rank (replies_in (view_of events rank)) ≡ Some event.call = rw same at step.call in
     cc
 
-pub HasNoStep-answered : (next : Next) (log : Log) (stop : Breakpoint) (events : List Event) (rank : ℕ) (call : Call) → next log.ranks rank (replies_in (view_of events rank)) ≡ Some call → ((reply : Reply) → answer_of log stop (view_of events) rank (view_of events rank) call ≡ Replied reply → ⊥) → HasNoStep next log stop events rank
+pub HasNoStep-answered : (next : Next) (log : Log) (stop : Breakpoint) (events : List Event) (rank : ℕ) (call : Call) → next log.ranks rank (replies_in (view_of events rank)) ≡ Some call → ((reply : Reply) → replay_answer log stop (view_of events) rank (view_of events rank) call ≡ Replied reply → ⊥) → HasNoStep next log stop events rank
 HasNoStep-answered next log stop events rank call h other event same step =
     let asked : next log.ranks rank (replies_in (view_of events rank)) ≡ Some event.call = rw same at step.call in
     let some : Some event.call ≡ Some call = sym asked ∙ h in
@@ -174,34 +174,34 @@ map_take-more f xs k lt = ap (map f) (take_more xs k 0 lt) ∙ map-append f (tak
 
 -- one attempt more, one round more
 attempts_last : (next : Next) (log : Log) (stop : Breakpoint) (events : List Event) (ranks : List ℕ) (rank : ℕ)
-    → attempts next log stop events (ranks ++ rank ∷ []) ≡ attempt next log stop (attempts next log stop events ranks) rank
+    → replay_attempts next log stop events (ranks ++ rank ∷ []) ≡ replay_attempt next log stop (replay_attempts next log stop events ranks) rank
 attempts_last next log stop events [] rank = refl
-attempts_last next log stop events (first ∷ ranks) rank = attempts_last next log stop (attempt next log stop events first) ranks rank
+attempts_last next log stop events (first ∷ ranks) rank = attempts_last next log stop (replay_attempt next log stop events first) ranks rank
 
 rounds_last : (next : Next) (log : Log) (stop : Breakpoint) (count : ℕ) (events : List Event)
-    → rounds next log stop (suc count) events ≡ attempts next log stop (rounds next log stop count events) log.group
+    → replay_rounds next log stop (suc count) events ≡ replay_attempts next log stop (replay_rounds next log stop count events) log.group
 rounds_last next log stop zero events = refl
-rounds_last next log stop (suc count) events = rounds_last next log stop count (attempts next log stop events log.group)
+rounds_last next log stop (suc count) events = rounds_last next log stop count (replay_attempts next log stop events log.group)
 
 -- one rank more of a round
 pub one_attempt : (next : Next) (log : Log) (stop : Breakpoint) (group : List ℕ) (k : ℕ) (start before after : List Event) → k < length group
-    → before ≡ attempts next log stop start (take k group) → after ≡ attempt next log stop before (slice_index group k)
-    → after ≡ attempts next log stop start (take (k + 1) group)
+    → before ≡ replay_attempts next log stop start (take k group) → after ≡ replay_attempt next log stop before (slice_index group k)
+    → after ≡ replay_attempts next log stop start (take (k + 1) group)
 one_attempt next log stop group k start before after within so_far one =
-    one ∙ ap (λ events. attempt next log stop events (slice_index group k)) so_far
-    ∙ sym (ap (attempts next log stop start) (take_more group k 0 within) ∙ attempts_last next log stop start (take k group) (slice_index group k))
+    one ∙ ap (λ events. replay_attempt next log stop events (slice_index group k)) so_far
+    ∙ sym (ap (replay_attempts next log stop start) (take_more group k 0 within) ∙ attempts_last next log stop start (take k group) (slice_index group k))
 
-one_more : (next : Next) (log : Log) (stop : Breakpoint) (count : ℕ) (start before after : List Event) → before ≡ rounds next log stop count start
-    → after ≡ attempts next log stop before log.group → after ≡ rounds next log stop (suc count) start
+one_more : (next : Next) (log : Log) (stop : Breakpoint) (count : ℕ) (start before after : List Event) → before ≡ replay_rounds next log stop count start
+    → after ≡ replay_attempts next log stop before log.group → after ≡ replay_rounds next log stop (suc count) start
 one_more next log stop count start before after so_far one =
-    one ∙ ap (λ events. attempts next log stop events log.group) so_far ∙ sym (rounds_last next log stop count start)
+    one ∙ ap (λ events. replay_attempts next log stop events log.group) so_far ∙ sym (rounds_last next log stop count start)
 
 -- the same of a replay whose program, log and breakpoint are still the first one's
 pub one_round : {P : Type 0} (next : P → Next) (count : ℕ) (one two three : ReplayState P) → two.program ≡ one.program → two.log ≡ one.log → two.stop ≡ one.stop
-    → two.events ≡ rounds (next one.program) one.log one.stop count one.events → three.events ≡ attempts (next two.program) two.log two.stop two.events two.log.group
-    → three.events ≡ rounds (next one.program) one.log one.stop (suc count) one.events
+    → two.events ≡ replay_rounds (next one.program) one.log one.stop count one.events → three.events ≡ replay_attempts (next two.program) two.log two.stop two.events two.log.group
+    → three.events ≡ replay_rounds (next one.program) one.log one.stop (suc count) one.events
 one_round {P} next count one two three program log stop so_far step =
-    let F : P → Type 0 = λ p. three.events ≡ attempts (next p) two.log two.stop two.events two.log.group in
-    let G : Log → Type 0 = λ l. three.events ≡ attempts (next one.program) l two.stop two.events l.group in
-    let H : Breakpoint → Type 0 = λ s. three.events ≡ attempts (next one.program) one.log s two.events one.log.group in
+    let F : P → Type 0 = λ p. three.events ≡ replay_attempts (next p) two.log two.stop two.events two.log.group in
+    let G : Log → Type 0 = λ l. three.events ≡ replay_attempts (next one.program) l two.stop two.events l.group in
+    let H : Breakpoint → Type 0 = λ s. three.events ≡ replay_attempts (next one.program) one.log s two.events one.log.group in
     one_more (next one.program) one.log one.stop count one.events two.events three.events so_far (subst H stop (subst G log (subst F program step)))

@@ -23,7 +23,7 @@ use Rattle.mpi_call.proofs.MemberLemmas.{at_place_of, place_of-within}
 use Rattle.mpi_call.proofs.NeedsLemmas.{needs-me}
 use Rattle.mpi_call.proofs.ResultLemmas.{length-result_of}
 use Rattle.run_model.specs.declared.event.Event.{Event}
-use Rattle.run_model.specs.Communicators.{Entered, enter_at, instance_of, known_first, members_in}
+use Rattle.run_model.specs.Communicators.{Entered, enter_at, instance_of, known_first, members_for_rank}
 use Rattle.run_model.specs.Forms.{AreInOrder, AreMembers}
 use Rattle.run_model.specs.Inputs.{inputs_of}
 use Rattle.run_model.specs.Lists.{are_below, same_ranks}
@@ -44,10 +44,10 @@ use Rattle.replay_model.specs.declared.step.Found.{Found}
 use Rattle.replay_model.specs.declared.step.Missing.{Missing}
 use Rattle.replay_model.specs.declared.step.Step.TheVariants.{Replied}
 use Rattle.replay_model.specs.Breaks.{break_inner, break_mark, break_marks, break_send, broken, send_fits}
-use Rattle.srr_replay.specs.Collectives.{IsCollective}
-use Rattle.replay_model.specs.Filling.{absent_of, as_took, fill_inner, fill_made, fill_mark, fill_marks, filled, joined, made_new, message_from, peeked_from, push_item}
-use Rattle.replay_model.specs.Fits.{fits, mark_fits, marks_fit}
-use Rattle.replay_model.specs.Replays.{Breakpoint, answer_of, entry_answer, is_break, judged}
+use Rattle.srr_replay.specs.inside.Collectives.{IsCollective}
+use Rattle.replay_model.specs.Filling.{absent_of, as_took, asker_of, fill_inner, fill_made, fill_mark, fill_marks, filled_message, filled_reply, joined_result, made_new, peeked_from, push_item}
+use Rattle.replay_model.specs.Fits.{entry_fits, mark_fits, marks_fit}
+use Rattle.replay_model.specs.Replays.{Breakpoint, replay_answer, entry_answer, is_break, judged}
 use Rattle.srr_replay.proofs.CollectiveLemmas.{form_of, inputs_are, or_none-first, or_none-rest}
 use Rattle.srr_replay.proofs.LogLemmas.{both}
 use Rattle.srr_replay.proofs.MissingMarks.{enter_for-made}
@@ -91,8 +91,8 @@ pub record TakeFits (n : ℕ) (group : List ℕ) (me : ℕ) (own : View) (starts
   pub open_starts : list_all (λ k. can_take own k) starts ≡ true
   pub marks_are : marks_fit n group me own starts marks ≡ true
 
-pub TakeFits-fits : (n : ℕ) (group : List ℕ) (me : ℕ) (own : View) (starts : List ℕ) (mode : TakeMode) (marks : List Marked) → fits n group me own (Take starts mode) (Took marks) ≡ true → TakeFits n group me own starts mode marks
-unfolding fits
+pub TakeFits-fits : (n : ℕ) (group : List ℕ) (me : ℕ) (own : View) (starts : List ℕ) (mode : TakeMode) (marks : List Marked) → entry_fits n group me own (Take starts mode) (Took marks) ≡ true → TakeFits n group me own starts mode marks
+unfolding entry_fits
 TakeFits-fits n group me own starts mode marks h =
     let one = both (has_count mode (length starts) (length marks)) _ h in
     let two = both (rise_within 0 (length starts) (map (λ (marked : Marked). marked.index) marks)) _ one.1 in
@@ -100,7 +100,7 @@ TakeFits-fits n group me own starts mode marks h =
     record { count = one.0; indices = two.0; open_starts = three.0; marks_are = three.1 }
 
 -- a mark of a message from inside gives what has the receive's shape
-sent_shaped : (n : ℕ) (group : List ℕ) (own : View) (me source start : ℕ) (taker sent : Option Call) (got : Got) → mark_fits n group me own taker (Inside source start) ≡ true → message_from source start sent ≡ Ok got → break_send me source start taker sent ≡ None → got_fits n me own taker got ≡ true
+sent_shaped : (n : ℕ) (group : List ℕ) (own : View) (me source start : ℕ) (taker sent : Option Call) (got : Got) → mark_fits n group me own taker (Inside source start) ≡ true → filled_message source start sent ≡ Ok got → break_send me source start taker sent ≡ None → got_fits n me own taker got ≡ true
 unfolding is_send
 sent_shaped n group own me source start taker None got fit made h = absurd (cc)
 sent_shaped n group own me source start taker (Some (Send c dest tag ints sync)) got fit made h =
@@ -115,11 +115,11 @@ sent_shaped n group own me source start taker (Some call) got fit made h =
     absurd (cc)
 
 -- what the rank itself entered is among the inputs of its collective
-own_input : (n : ℕ) (events : List Event) (rank k : ℕ) (enter : Call) (inputs : List (List ℤ)) → IsCollective n events rank k enter → inputs_of n (view_of events) rank (view_of events rank) k enter ≡ Ok inputs → input_of (members_in n (view_of events rank) (comm_of enter)) inputs rank ≡ ints_of enter
+own_input : (n : ℕ) (events : List Event) (rank k : ℕ) (enter : Call) (inputs : List (List ℤ)) → IsCollective n events rank k enter → inputs_of n (view_of events) rank (view_of events rank) k enter ≡ Ok inputs → input_of (members_for_rank n (view_of events rank) (comm_of enter)) inputs rank ≡ ints_of enter
 own_input n events rank k enter inputs is gathered =
     let own : View = view_of events rank in
     let C : ℕ = comm_of enter in
-    let M : List ℕ = members_in n own C in
+    let M : List ℕ = members_for_rank n own C in
     let find : ℕ → Option Entered = λ m. enter_at n (view_of events m) C (instance_of own k C) in
     let form = form_of n events rank k enter is in
     let mine = own_at C 0 (known_first n C) own k enter is.start (on_own enter is.is) in
@@ -131,17 +131,17 @@ own_input n events rank k enter inputs is gathered =
     found.2 ∙ (ap (λ (x : Entered). ints_of x.call) same ∙ ap ints_of mine.2)
 
 -- a result has the length of the table
-joined_shaped : (n : ℕ) (events : List Event) (rank k : ℕ) (enter : Call) (inputs : List (List ℤ)) → IsCollective n events rank k enter → inputs_of n (view_of events) rank (view_of events rank) k enter ≡ Ok inputs → is_sized n rank (view_of events rank) enter (result_of enter (members_in n (view_of events rank) (comm_of enter)) inputs rank) ≡ true
+joined_shaped : (n : ℕ) (events : List Event) (rank k : ℕ) (enter : Call) (inputs : List (List ℤ)) → IsCollective n events rank k enter → inputs_of n (view_of events) rank (view_of events rank) k enter ≡ Ok inputs → is_sized n rank (view_of events rank) enter (result_of enter (members_for_rank n (view_of events rank) (comm_of enter)) inputs rank) ≡ true
 joined_shaped n events rank k enter inputs is gathered =
-    let M : List ℕ = members_in n (view_of events rank) (comm_of enter) in
+    let M : List ℕ = members_for_rank n (view_of events rank) (comm_of enter) in
     let form = form_of n events rank k enter is in
     eq-eqb (length (result_of enter M inputs rank)) (result_length enter M rank)
     (length-result_of enter M inputs rank form.form form.members.has_me (inputs_are n events rank k enter inputs is gathered))
 
 -- a new communicator has members for the rank
-made_members : (n : ℕ) (events : List Event) (rank k : ℕ) (enter : Call) (inputs : List (List ℤ)) → IsCollective n events rank k enter → makes enter ≡ true → is_uncoloured enter ≡ false → inputs_of n (view_of events) rank (view_of events rank) k enter ≡ Ok inputs → AreMembers n rank (members_made enter (members_in n (view_of events rank) (comm_of enter)) inputs rank)
+made_members : (n : ℕ) (events : List Event) (rank k : ℕ) (enter : Call) (inputs : List (List ℤ)) → IsCollective n events rank k enter → makes enter ≡ true → is_uncoloured enter ≡ false → inputs_of n (view_of events) rank (view_of events rank) k enter ≡ Ok inputs → AreMembers n rank (members_made enter (members_for_rank n (view_of events rank) (comm_of enter)) inputs rank)
 made_members n events rank k enter inputs is making coloured gathered =
-    AreMembers-made n rank enter (members_in n (view_of events rank) (comm_of enter)) inputs making coloured (form_of n events rank k enter is).members (own_input n events rank k enter inputs is gathered)
+    AreMembers-made n rank enter (members_for_rank n (view_of events rank) (comm_of enter)) inputs making coloured (form_of n events rank k enter is).members (own_input n events rank k enter inputs is gathered)
 
 -- a Dup gives the old members
 dup_same : (enter : Call) (members : List ℕ) (inputs : List (List ℤ)) (me : ℕ) → is_dup enter ≡ true → same_ranks members (members_made enter members inputs me) ≡ true
@@ -153,15 +153,15 @@ not_or : (b c : Bool) → (b ≡ true → c ≡ true) → (not b || c) ≡ true
 not_or true c h = h refl
 not_or false c h = refl
 
-made_are : (n : ℕ) (events : List Event) (rank k : ℕ) (enter : Call) (inputs : List (List ℤ)) → IsCollective n events rank k enter → makes enter ≡ true → is_uncoloured enter ≡ false → inputs_of n (view_of events) rank (view_of events rank) k enter ≡ Ok inputs → are_members n rank enter (members_in n (view_of events rank) (comm_of enter)) (members_made enter (members_in n (view_of events rank) (comm_of enter)) inputs rank) ≡ true
+made_are : (n : ℕ) (events : List Event) (rank k : ℕ) (enter : Call) (inputs : List (List ℤ)) → IsCollective n events rank k enter → makes enter ≡ true → is_uncoloured enter ≡ false → inputs_of n (view_of events) rank (view_of events rank) k enter ≡ Ok inputs → are_members n rank enter (members_for_rank n (view_of events rank) (comm_of enter)) (members_made enter (members_for_rank n (view_of events rank) (comm_of enter)) inputs rank) ≡ true
 made_are n events rank k enter inputs is making coloured gathered =
-    let M : List ℕ = members_in n (view_of events rank) (comm_of enter) in
+    let M : List ℕ = members_for_rank n (view_of events rank) (comm_of enter) in
     let are = made_members n events rank k enter inputs is making coloured gathered in
     let dup = not_or (is_dup enter) (same_ranks M (members_made enter M inputs rank)) (dup_same enter M inputs rank) in
     rw (are.below, are.distinct, are.has_me, dup) refl
 
 -- members of a new communicator with a number above 0 fit their Enter
-made_shape : (n : ℕ) (own : View) (me : ℕ) (enter : Call) (comm : ℕ) (members : List ℕ) → makes enter ≡ true → is_uncoloured enter ≡ false → (comm == 0) ≡ false → is_member members me ≡ true → are_members n me enter (members_in n own (comm_of enter)) members ≡ true → got_fits n me own (Some enter) (Made comm members) ≡ true
+made_shape : (n : ℕ) (own : View) (me : ℕ) (enter : Call) (comm : ℕ) (members : List ℕ) → makes enter ≡ true → is_uncoloured enter ≡ false → (comm == 0) ≡ false → is_member members me ≡ true → are_members n me enter (members_for_rank n own (comm_of enter)) members ≡ true → got_fits n me own (Some enter) (Made comm members) ≡ true
 made_shape n own me (Enter c kind root op count ints) comm [] making coloured real member are = absurd (cc)
 made_shape n own me (Enter c kind root op count ints) comm (m ∷ members) making coloured real member are = rw (making, coloured, real, are) refl
 made_shape n own me call comm members making coloured real member are = absurd (cc)
@@ -220,7 +220,7 @@ outside_shape n group me own (Enter c kind root op count ints) comm members mine
     let enter : Call = Enter c kind root op count ints in
     let one = and_parts (makes enter) _ fit in
     let two = and_parts (not (is_inner n group me own (Some enter))) _ one.1 in
-    let three = and_parts (not (comm == 0)) (are_members n me enter (members_in n own c) members) two.1 in
+    let three = and_parts (not (comm == 0)) (are_members n me enter (members_for_rank n own c) members) two.1 in
     let below = and_parts (are_below n members) _ three.1 in
     let distinct = and_parts (is_distinct members) _ below.1 in
     let member = and_parts (is_member members me) _ distinct.1 in
@@ -278,16 +278,16 @@ gathered_is : (n : ℕ) (events : List Event) (me k : ℕ) (call : Call) (inputs
 gathered_is n events me k call inputs below order at is gathered whole =
     record { below = below; order = order; start = at; is = is; there = ap absent_of gathered; agrees = whole }
 
-inner_gathered : (n : ℕ) (group : List ℕ) (events : List Event) (me k : ℕ) (call : Call) (found : Result (List (List ℤ)) ℕ) (got : Got) → me < n → AreInOrder n events → start_at (view_of events me) k ≡ Some call → is_enter call ≡ true → makes call ≡ false → inputs_of n (view_of events) me (view_of events me) k call ≡ found → joined n me (view_of events me) k call found ≡ Ok got → break_inner n (view_of events) me (view_of events me) k (Some call) ≡ None → got_fits n me (view_of events me) (Some call) got ≡ true
+inner_gathered : (n : ℕ) (group : List ℕ) (events : List Event) (me k : ℕ) (call : Call) (found : Result (List (List ℤ)) ℕ) (got : Got) → me < n → AreInOrder n events → start_at (view_of events me) k ≡ Some call → is_enter call ≡ true → makes call ≡ false → inputs_of n (view_of events) me (view_of events me) k call ≡ found → joined_result n me (view_of events me) k call found ≡ Ok got → break_inner n (view_of events) me (view_of events me) k (Some call) ≡ None → got_fits n me (view_of events me) (Some call) got ≡ true
 inner_gathered n group events me k call (Ok inputs) got below order at is making gathered given whole =
-    let same : Joined (result_of call (members_in n (view_of events me) (comm_of call)) inputs me) ≡ got = cc in
+    let same : Joined (result_of call (members_for_rank n (view_of events me) (comm_of call)) inputs me) ≡ got = cc in
     let collective = gathered_is n events me k call inputs below order at is gathered whole in
-    rw (← same) (joined_shape n (view_of events me) me call (result_of call (members_in n (view_of events me) (comm_of call)) inputs me) is making (joined_shaped n events me k call inputs collective gathered))
+    rw (← same) (joined_shape n (view_of events me) me call (result_of call (members_for_rank n (view_of events me) (comm_of call)) inputs me) is making (joined_shaped n events me k call inputs collective gathered))
 inner_gathered n group events me k call (Err m) got below order at is making gathered given whole = absurd (cc)
 
-made_gathered : (n : ℕ) (events : List Event) (me k comm : ℕ) (call : Call) (found : Result (List (List ℤ)) ℕ) (got : Got) → me < n → AreInOrder n events → (comm == 0) ≡ false → start_at (view_of events me) k ≡ Some call → is_enter call ≡ true → makes call ≡ true → is_uncoloured call ≡ false → inputs_of n (view_of events) me (view_of events me) k call ≡ found → made_new comm n me (view_of events me) k call found ≡ Ok got → break_inner n (view_of events) me (view_of events me) k (Some call) ≡ None → got_fits n me (view_of events me) (Some call) got ≡ true
+made_gathered : (n : ℕ) (events : List Event) (me k comm : ℕ) (call : Call) (found : Result (List (List ℤ)) ℕ) (got : Got) → me < n → AreInOrder n events → (comm == 0) ≡ false → start_at (view_of events me) k ≡ Some call → is_enter call ≡ true → makes call ≡ true → is_uncoloured call ≡ false → inputs_of n (view_of events) me (view_of events me) k call ≡ found → made_new comm (asker_of n me (view_of events me)) k call found ≡ Ok got → break_inner n (view_of events) me (view_of events me) k (Some call) ≡ None → got_fits n me (view_of events me) (Some call) got ≡ true
 made_gathered n events me k comm call (Ok inputs) got below order real at is making coloured gathered given whole =
-    let M : List ℕ = members_in n (view_of events me) (comm_of call) in
+    let M : List ℕ = members_for_rank n (view_of events me) (comm_of call) in
     let same : Made comm (members_made call M inputs me) ≡ got = cc in
     let collective = gathered_is n events me k call inputs below order at is gathered whole in
     let are = made_members n events me k call inputs collective making coloured gathered in
@@ -301,7 +301,7 @@ inner_shaped n group events me k (Some call) got below order at fit made whole =
     let parts = inner_parts n group me (view_of events me) call fit in
     inner_gathered n group events me k call (inputs_of n (view_of events) me (view_of events me) k call) got below order at parts.0 parts.1 refl made whole
 
-made_shaped : (n : ℕ) (group : List ℕ) (events : List Event) (me k comm : ℕ) (start : Option Call) (got : Got) → me < n → AreInOrder n events → (comm == 0) ≡ false → start_at (view_of events me) k ≡ start → mark_fits n group me (view_of events me) start (MarkMade comm) ≡ true → fill_made comm n (view_of events) me (view_of events me) k start ≡ Ok got → break_inner n (view_of events) me (view_of events me) k start ≡ None → got_fits n me (view_of events me) start got ≡ true
+made_shaped : (n : ℕ) (group : List ℕ) (events : List Event) (me k comm : ℕ) (start : Option Call) (got : Got) → me < n → AreInOrder n events → (comm == 0) ≡ false → start_at (view_of events me) k ≡ start → mark_fits n group me (view_of events me) start (MarkMade comm) ≡ true → fill_made comm (view_of events) (asker_of n me (view_of events me)) k start ≡ Ok got → break_inner n (view_of events) me (view_of events me) k start ≡ None → got_fits n me (view_of events me) start got ≡ true
 made_shaped n group events me k comm None got below order real at fit made whole = absurd (cc)
 made_shaped n group events me k comm (Some call) got below order real at fit made whole =
     made_gathered n events me k comm call (inputs_of n (view_of events) me (view_of events me) k call) got below order real at
@@ -379,8 +379,8 @@ as_took_ok (Ok items) reply h = (items, refl, cc)
 as_took_ok (Err missing) reply h = absurd (cc)
 
 -- an entry that fits, with all that it rests on
-entry_shaped : (n : ℕ) (group : List ℕ) (events : List Event) (me : ℕ) (call : Call) (entry : Entry) (reply : Reply) → me < n → AreInOrder n events → is_member group me ≡ true → fits n group me (view_of events me) call entry ≡ true → filled n (view_of events) me (view_of events me) call entry ≡ Ok reply → broken n (view_of events) me (view_of events me) call entry ≡ None → has_shape n me (view_of events me) call reply ≡ true
-unfolding fits
+entry_shaped : (n : ℕ) (group : List ℕ) (events : List Event) (me : ℕ) (call : Call) (entry : Entry) (reply : Reply) → me < n → AreInOrder n events → is_member group me ≡ true → entry_fits n group me (view_of events me) call entry ≡ true → filled_reply n (view_of events) me (view_of events me) call entry ≡ Ok reply → broken n (view_of events) me (view_of events me) call entry ≡ None → has_shape n me (view_of events me) call reply ≡ true
+unfolding entry_fits
 entry_shaped n group events me call (EntryStopped halt) reply below order mine fit made whole = (let same : Stopped halt ≡ reply = cc in rw (← same) fit)
 entry_shaped n group events me (Send comm dest tag ints sync) EntrySent reply below order mine fit made whole = (let same : Done ≡ reply = cc in rw (← same) refl)
 entry_shaped n group events me (Post comm source tag room) Posted reply below order mine fit made whole = (let same : Done ≡ reply = cc in rw (← same) refl)
@@ -402,18 +402,18 @@ judged_ok me own call entry (Ok given) None reply h = (let same : given ≡ repl
 judged_ok me own call entry (Ok given) (Some found) reply h = absurd (cc)
 judged_ok me own call entry (Err missing) found reply h = absurd (cc)
 
-found_shaped : (n : ℕ) (group : List ℕ) (events : List Event) (me : ℕ) (call : Call) (found : Option Entry) (reply : Reply) → me < n → AreInOrder n events → is_member group me ≡ true → entry_answer n group (view_of events) me (view_of events me) call found ≡ Replied reply → has_shape n me (view_of events me) call reply ≡ true
+found_shaped : (n : ℕ) (group : List ℕ) (events : List Event) (me : ℕ) (call : Call) (found : Option Entry) (reply : Reply) → me < n → AreInOrder n events → is_member group me ≡ true → entry_answer group (view_of events) (asker_of n me (view_of events me)) call found ≡ Replied reply → has_shape n me (view_of events me) call reply ≡ true
 found_shaped n group events me call None reply below order mine h = absurd (cc)
 found_shaped n group events me call (Some entry) reply below order mine h =
-    elim (test_cases (fits n group me (view_of events me) call entry)) [
+    elim (test_cases (entry_fits n group me (view_of events me) call entry)) [
       | inl fit ↦ (
-          let ok = judged_ok me (view_of events me) call entry (filled n (view_of events) me (view_of events me) call entry) (broken n (view_of events) me (view_of events me) call entry) reply (rw fit at h) in
+          let ok = judged_ok me (view_of events me) call entry (filled_reply n (view_of events) me (view_of events me) call entry) (broken n (view_of events) me (view_of events me) call entry) reply (rw fit at h) in
           entry_shaped n group events me call entry reply below order mine fit ok.0 ok.1)
       | inr unfit ↦ (let told = rw unfit at h in absurd (cc))
     ]
 
 -- the answer of a log has the shape of the call
-pub answer_shaped : (log : Log) (stop : Breakpoint) (events : List Event) (me : ℕ) (call : Call) (reply : Reply) → me < log.ranks → AreInOrder log.ranks events → is_member log.group me ≡ true → answer_of log stop (view_of events) me (view_of events me) call ≡ Replied reply → has_shape log.ranks me (view_of events me) call reply ≡ true
+pub answer_shaped : (log : Log) (stop : Breakpoint) (events : List Event) (me : ℕ) (call : Call) (reply : Reply) → me < log.ranks → AreInOrder log.ranks events → is_member log.group me ≡ true → replay_answer log stop (view_of events) me (view_of events me) call ≡ Replied reply → has_shape log.ranks me (view_of events me) call reply ≡ true
 answer_shaped log stop events me call reply below order mine h =
     elim (test_cases (is_break stop me (length (view_of events me)))) [
       | inl stops ↦ (let told = rw stops at h in absurd (cc))

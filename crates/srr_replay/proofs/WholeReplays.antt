@@ -14,7 +14,7 @@ use Rattle.srr_entry.specs.declared.log.Log.{Log}
 use Rattle.replay_model.specs.declared.replayed.Replayed.{Replayed}
 use Rattle.replay_model.specs.declared.replayed.Stand.{Stand}
 use Rattle.replay_model.specs.declared.replayed.Stand.TheVariants.{AtBreak as StandAtBreak, Starved}
-use Rattle.replay_model.specs.Laws.{BeginsRun, EachStand, HasAllOf, HasNotDiverged, HasTheCut, IsDone, IsReplayOfRun, StarvesBehindABreak}
+use Rattle.replay_model.specs.Laws.{BeginsRun, EachStand, HasAllOf, HasNotDiverged, HasTheCut, IsStandAtEnd, IsReplayOfRun, StarvesBehindABreak}
 use Rattle.replay_model.specs.Replays.{IsWholeReplay, Breakpoint}
 use Rattle.replay_model.specs.Stands.{IsReplayed, stand_of}
 use Rattle.srr_entry.specs.Outputs.{Output, printed_of}
@@ -81,7 +81,7 @@ pub IsReplayOfRun-laws : (next : Next) (output : Output) (variables : ℕ → �
     → HasTheCut log stop replayed.events.events run
     → StarvesBehindABreak next variables log stop replayed.events.events
     → (stop ≡ None → HasAllOf output log replayed.events.events run)
-    → (stop ≡ None → EachStand IsDone next variables log stop replayed.events.events)
+    → (stop ≡ None → EachStand IsStandAtEnd next variables log stop replayed.events.events)
     → IsReplayOfRun output log stop run replayed
 IsReplayOfRun-laws next output variables log stop run replayed is begins agree cut behind whole done =
     let stands : ℕ → Option Stand = stand_of next variables log stop replayed.events.events in
@@ -95,5 +95,5 @@ IsReplayOfRun-laws next output variables log stop run replayed is begins agree c
           (break.1, stand_of_rank stands log.group replayed.ends (StandAtBreak break.1) break.0 is.ends break.2 break.3));
       views = λ stopless. (whole stopless).views;
       outputs = λ stopless. is.outputs ∙ same_outputs (printed_of output log.ranks replayed.events.events) (printed_of output log.ranks run) log.group (whole stopless).outputs;
-      ends = λ stopless. all_stands IsDone stands log.group replayed.ends is.ends (done stopless);
+      ends = λ stopless. all_stands IsStandAtEnd stands log.group replayed.ends is.ends (done stopless);
     }

@@ -1,5 +1,3 @@
-pub mod Collectives
-pub mod IndexedHistory
-pub mod Kept
 pub mod Places
 pub mod Rounds
+pub mod inside

@@ -1,10 +1,11 @@
 //! The answer to a rank's call, by its next entry.
 ghost use Rattle.std.specs.Prelude.{◌≡◌, ◌<◌, IfOk, IfSome, IsOk, Some, is_some, length, true};
 ghost use Rattle.run_model.specs.Forms.{AreInOrder, IsInOrder};
-ghost use Rattle.run_model.specs.Views.{View, view_of};
-ghost use Rattle.replay_model.specs.Fits.{fits};
-ghost use Rattle.replay_model.specs.Replays.{answer_of, diverged, entry_answer, is_break, takes_none};
-ghost use Rattle.srr_replay.specs.Places.{AreThere, IsPlace, IsPlaceIn};
+ghost use Rattle.run_model.specs.Views.{View, moment_at, view_of};
+ghost use Rattle.replay_model.specs.Fits.{entry_fits};
+ghost use Rattle.replay_model.specs.Replays.{replay_answer, diverged, entry_answer, is_break, copies_nothing};
+ghost use Rattle.srr_replay.specs.Places.{AreThere, IsEntryPlace, IsPlaceIn};
+ghost use Rattle.replay_model.specs.Filling.{asker_of};
 
 use crate::clash::find_clash;
 use crate::fill::reply;
@@ -35,8 +36,8 @@ pub fn answer(
     requires order { AreInOrder seen.now.ranks seen.now.events }
     requires place { IfSome place.old (λ place. IsPlaceIn log.now seen.now.events asked.now.rank asked.now.call.now place) }
     ensures place { IfSome place.new (λ place. IsPlaceIn log.now seen.now.events asked.now.rank asked.now.call.now place) }
-    ensures answer { IfOk result (λ step. step ≡ answer_of log.now stop.now (view_of seen.now.events) asked.now.rank (view_of seen.now.events asked.now.rank) asked.now.call.now) }
-    ensures sure { takes_none (answer_of log.now stop.now (view_of seen.now.events) asked.now.rank (view_of seen.now.events asked.now.rank) asked.now.call.now) ≡ true → IsOk result }
+    ensures answer { IfOk result (λ step. step ≡ replay_answer log.now stop.now (view_of seen.now.events) asked.now.rank (view_of seen.now.events asked.now.rank) asked.now.call.now) }
+    ensures sure { copies_nothing (replay_answer log.now stop.now (view_of seen.now.events) asked.now.rank (view_of seen.now.events asked.now.rank) asked.now.call.now) ≡ true → IsOk result }
 {
     if is_at(stop, asked.rank, asked.number) {
         return Ok(Step::AtBreak);
@@ -70,10 +71,10 @@ fn answer_by(
     requires rank { asked.now.rank < seen.now.ranks }
     requires number { asked.now.number ≡ length (view_of seen.now.events asked.now.rank) }
     requires order { AreInOrder seen.now.ranks seen.now.events }
-    requires place { IfSome place.old (λ place. IsPlace seen.now.ranks group.now seen.now.events asked.now.rank asked.now.call.now entry.now place) }
-    ensures place { IfSome place.new (λ place. IsPlace seen.now.ranks group.now seen.now.events asked.now.rank asked.now.call.now entry.now place) }
-    ensures answer { IfOk result (λ step. step ≡ entry_answer seen.now.ranks group.now (view_of seen.now.events) asked.now.rank (view_of seen.now.events asked.now.rank) asked.now.call.now (Some entry.now)) }
-    ensures sure { takes_none (entry_answer seen.now.ranks group.now (view_of seen.now.events) asked.now.rank (view_of seen.now.events asked.now.rank) asked.now.call.now (Some entry.now)) ≡ true → IsOk result }
+    requires place { IfSome place.old (λ place. IsEntryPlace (moment_at seen.now.ranks seen.now.events asked.now.rank) group.now asked.now.call.now entry.now place) }
+    ensures place { IfSome place.new (λ place. IsEntryPlace (moment_at seen.now.ranks seen.now.events asked.now.rank) group.now asked.now.call.now entry.now place) }
+    ensures answer { IfOk result (λ step. step ≡ entry_answer group.now (view_of seen.now.events) (asker_of seen.now.ranks asked.now.rank (view_of seen.now.events asked.now.rank)) asked.now.call.now (Some entry.now)) }
+    ensures sure { copies_nothing (entry_answer group.now (view_of seen.now.events) (asker_of seen.now.ranks asked.now.rank (view_of seen.now.events asked.now.rank)) asked.now.call.now (Some entry.now)) ≡ true → IsOk result }
 {
     let Some(from) = first_mark(group, seen, *place, asked, entry) else {
         return diverge(asked, entry, None);
@@ -104,8 +105,8 @@ fn first_mark(
     entry: &Entry,
 ) -> Option<usize>
     requires order { IsInOrder seen.now.ranks asked.now.rank (view_of seen.now.events asked.now.rank) }
-    requires place { IfSome place (λ place. IsPlace seen.now.ranks group.now seen.now.events asked.now.rank asked.now.call.now entry.now place) }
-    ensures fits { is_some result ≡ fits seen.now.ranks group.now asked.now.rank (view_of seen.now.events asked.now.rank) asked.now.call.now entry.now }
+    requires place { IfSome place (λ place. IsEntryPlace (moment_at seen.now.ranks seen.now.events asked.now.rank) group.now asked.now.call.now entry.now place) }
+    ensures fits { is_some result ≡ entry_fits seen.now.ranks group.now asked.now.rank (view_of seen.now.events asked.now.rank) asked.now.call.now entry.now }
     ensures there { IfSome result (λ from. AreThere seen.now.ranks seen.now.events asked.now.rank asked.now.call.now entry.now from) }
 {
     if place.is_some() {

@@ -6,8 +6,8 @@ ghost use Rattle.run_model.specs.Communicators.{enter_at};
 ghost use Rattle.run_model.specs.Forms.{IsInOrder};
 ghost use Rattle.run_model.specs.Views.{start_at, view_of};
 ghost use Rattle.replay_model.specs.Breaks.{break_enter, break_inner, break_mark, break_marks, break_members, break_send, broken, has_members, send_fits};
-ghost use Rattle.replay_model.specs.Fits.{IsEnterAt, fits, mark_fits, marks_fit};
-ghost use Rattle.srr_replay.specs.IndexedHistory.{entered_of, found_of};
+ghost use Rattle.replay_model.specs.Fits.{IsEnterAt, entry_fits, mark_fits, marks_fit};
+ghost use Rattle.srr_replay.specs.inside.IndexedHistory.{entered_of, found_of};
 
 use crate::fit::comm_of;
 use crate::indexed_history::{Enter, IndexedHistory};
@@ -28,14 +28,14 @@ pub struct Clash<'a> {
 }
 
 /// The first replayed start that disagrees, in item order and then in member order. Takes no memory.
-#[tactic(auto, unfolding(replay_model::specs::Fits::fits))]
+#[tactic(auto, unfolding(replay_model::specs::Fits::entry_fits))]
 pub fn find_clash<'a>(
     seen: &'a IndexedHistory,
     asked: &NextCall<'_>,
     entry: &Entry,
 ) -> Option<Clash<'a>>
     requires order { IsInOrder seen.now.ranks asked.now.rank (view_of seen.now.events asked.now.rank) }
-    requires fits { (group : List ℕ) × (fits seen.now.ranks group asked.now.rank (view_of seen.now.events asked.now.rank) asked.now.call.now entry.now ≡ true) }
+    requires fits { (group : List ℕ) × (entry_fits seen.now.ranks group asked.now.rank (view_of seen.now.events asked.now.rank) asked.now.call.now entry.now ≡ true) }
     ensures { option_map found_of result ≡ broken seen.now.ranks (view_of seen.now.events) asked.now.rank (view_of seen.now.events asked.now.rank) asked.now.call.now entry.now }
 {
     match entry {

@@ -6,11 +6,11 @@ use std::marker::Model;
 
 /// A count for each rank, which contracts see as a list.
 #[derive(Drop)]
-pub struct Counts {
+pub struct RankCounts {
     values: Vec<u32>,
 }
 
-impl Model for Counts {
+impl Model for RankCounts {
     ghost use Rattle.std.specs.Prelude.{List, ℕ};
 
     ghost Value = { List ℕ };
@@ -18,14 +18,14 @@ impl Model for Counts {
     ghost view = { λ s. s.values.items };
 }
 
-impl Counts {
+impl RankCounts {
     /// No calls of `ranks` ranks.
     pub fn new(alloc: Global, ranks: u8) -> Result<Self, AllocError>
         ensures { IfOk result (λ counts. counts ≡ replicate ranks 0) }
     {
         let mut values = Vec::new(alloc);
         values.resize(ranks as usize, 0)?;
-        Ok(Counts { values })
+        Ok(RankCounts { values })
     }
 
     /// The count of a rank.

@@ -9,9 +9,9 @@ ghost use Rattle.run_model.specs.Forms.{AreInOrder};
 ghost use Rattle.run_model.specs.Inputs.{gather, inputs_of};
 ghost use Rattle.run_model.specs.Views.{start_at, view_of};
 ghost use Rattle.replay_model.specs.Breaks.{break_inner, break_mark, break_marks, broken};
-ghost use Rattle.replay_model.specs.Filling.{absent_of, fill_inner, fill_made, fill_mark, fill_marks, filled, joined, made_new, message_from, missing_of, peeked_from};
-ghost use Rattle.srr_replay.specs.Collectives.{IsCollective};
-ghost use Rattle.replay_model.specs.Fits.{fits, mark_fits, marks_fit};
+ghost use Rattle.replay_model.specs.Filling.{absent_of, asker_of, fill_inner, fill_made, fill_mark, fill_marks, filled_message, filled_reply, joined_result, made_new, missing_of, peeked_from};
+ghost use Rattle.srr_replay.specs.inside.Collectives.{IsCollective};
+ghost use Rattle.replay_model.specs.Fits.{entry_fits, mark_fits, marks_fit};
 
 use crate::fit::comm_of;
 use crate::indexed_history::IndexedHistory;
@@ -26,7 +26,7 @@ use srr_entry::entry::{Entry, Mark, Marked};
 use std::alloc::{AllocError, Global};
 
 /// The reply.
-#[tactic(auto, unfolding(replay_model::specs::Fits::fits))]
+#[tactic(auto, unfolding(replay_model::specs::Fits::entry_fits))]
 pub fn reply(
     alloc: Global,
     seen: &IndexedHistory,
@@ -35,10 +35,10 @@ pub fn reply(
 ) -> Result<Reply, AllocError>
     requires rank { asked.now.rank < seen.now.ranks }
     requires order { AreInOrder seen.now.ranks seen.now.events }
-    requires fits { (group : List ℕ) × (fits seen.now.ranks group asked.now.rank (view_of seen.now.events asked.now.rank) asked.now.call.now entry.now ≡ true) }
-    requires there { missing_of (filled seen.now.ranks (view_of seen.now.events) asked.now.rank (view_of seen.now.events asked.now.rank) asked.now.call.now entry.now) ≡ None }
+    requires fits { (group : List ℕ) × (entry_fits seen.now.ranks group asked.now.rank (view_of seen.now.events asked.now.rank) asked.now.call.now entry.now ≡ true) }
+    requires there { missing_of (filled_reply seen.now.ranks (view_of seen.now.events) asked.now.rank (view_of seen.now.events asked.now.rank) asked.now.call.now entry.now) ≡ None }
     requires agrees { broken seen.now.ranks (view_of seen.now.events) asked.now.rank (view_of seen.now.events asked.now.rank) asked.now.call.now entry.now ≡ None }
-    ensures { IfOk result (λ reply. filled seen.now.ranks (view_of seen.now.events) asked.now.rank (view_of seen.now.events asked.now.rank) asked.now.call.now entry.now ≡ Ok reply) }
+    ensures { IfOk result (λ reply. filled_reply seen.now.ranks (view_of seen.now.events) asked.now.rank (view_of seen.now.events asked.now.rank) asked.now.call.now entry.now ≡ Ok reply) }
 {
     match entry {
         Entry::Sent | Entry::Posted | Entry::Entered | Entry::Ended => Ok(Reply::Done),
@@ -194,8 +194,8 @@ fn made_none(alloc: Global) -> Got
 
 /// The message of a named Send.
 fn message(seen: &IndexedHistory, source: u8, start: u32) -> Result<Got, AllocError>
-    requires there { missing_of (message_from source start (start_at (view_of seen.now.events source) start)) ≡ None }
-    ensures { IfOk result (λ got. message_from source start (start_at (view_of seen.now.events source) start) ≡ Ok got) }
+    requires there { missing_of (filled_message source start (start_at (view_of seen.now.events source) start)) ≡ None }
+    ensures { IfOk result (λ got. filled_message source start (start_at (view_of seen.now.events source) start) ≡ Ok got) }
 {
     match seen.start(source, start) {
         Some(Call::Send { tag, ints, .. }) => copy_message(source, start, *tag, ints),
@@ -232,7 +232,7 @@ fn result_for(
 ) -> Result<Ints, AllocError>
     requires collective { IsCollective seen.now.ranks seen.now.events rank start call.now }
     requires kind { makes call.now ≡ false }
-    ensures { IfOk result (λ ints. joined seen.now.ranks rank (view_of seen.now.events rank) start call.now (inputs_of seen.now.ranks (view_of seen.now.events) rank (view_of seen.now.events rank) start call.now) ≡ Ok (Joined ints)) }
+    ensures { IfOk result (λ ints. joined_result seen.now.ranks rank (view_of seen.now.events rank) start call.now (inputs_of seen.now.ranks (view_of seen.now.events) rank (view_of seen.now.events rank) start call.now) ≡ Ok (Joined ints)) }
 {
     let comm = comm_of(call);
     let instance = seen.instance(rank, start, comm);
@@ -252,9 +252,9 @@ fn made_of(
     requires rank { rank < seen.now.ranks }
     requires order { AreInOrder seen.now.ranks seen.now.events }
     requires enter { (call : Call) → start_at (view_of seen.now.events rank) start ≡ Some call → (is_enter call ≡ true) × (makes call ≡ true) }
-    requires there { missing_of (fill_made comm seen.now.ranks (view_of seen.now.events) rank (view_of seen.now.events rank) start (start_at (view_of seen.now.events rank) start)) ≡ None }
+    requires there { missing_of (fill_made comm (view_of seen.now.events) (asker_of seen.now.ranks rank (view_of seen.now.events rank)) start (start_at (view_of seen.now.events rank) start)) ≡ None }
     requires agrees { break_inner seen.now.ranks (view_of seen.now.events) rank (view_of seen.now.events rank) start (start_at (view_of seen.now.events rank) start) ≡ None }
-    ensures { IfOk result (λ got. fill_made comm seen.now.ranks (view_of seen.now.events) rank (view_of seen.now.events rank) start (start_at (view_of seen.now.events rank) start) ≡ Ok got) }
+    ensures { IfOk result (λ got. fill_made comm (view_of seen.now.events) (asker_of seen.now.ranks rank (view_of seen.now.events rank)) start (start_at (view_of seen.now.events rank) start) ≡ Ok got) }
 {
     match seen.start(rank, start) {
         Some(call) => {
@@ -275,7 +275,7 @@ fn members_for(
 ) -> Result<Ranks, AllocError>
     requires collective { IsCollective seen.now.ranks seen.now.events rank start call.now }
     requires kind { makes call.now ≡ true }
-    ensures { IfOk result (λ members. (comm : ℕ) → made_new comm seen.now.ranks rank (view_of seen.now.events rank) start call.now (inputs_of seen.now.ranks (view_of seen.now.events) rank (view_of seen.now.events rank) start call.now) ≡ Ok (Made comm members)) }
+    ensures { IfOk result (λ members. (comm : ℕ) → made_new comm (asker_of seen.now.ranks rank (view_of seen.now.events rank)) start call.now (inputs_of seen.now.ranks (view_of seen.now.events) rank (view_of seen.now.events rank) start call.now) ≡ Ok (Made comm members)) }
 {
     let comm = comm_of(call);
     let instance = seen.instance(rank, start, comm);

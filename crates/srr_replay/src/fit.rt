@@ -3,14 +3,14 @@ ghost use Rattle.std.specs.Prelude.{◌≡◌, ℕ, ℤ, List, Some, true, false
 ghost use Rattle.std.specs.List.{list_all};
 ghost use Rattle.mpi_call.specs.Calls.{comm_of, is_enter, makes};
 ghost use Rattle.mpi_call.specs.Collectives.{is_uncoloured};
-ghost use Rattle.run_model.specs.Communicators.{members_in};
+ghost use Rattle.run_model.specs.Communicators.{members_for_rank};
 ghost use Rattle.run_model.specs.Forms.{IsInOrder};
 ghost use Rattle.run_model.specs.Shape.{are_members, can_take, is_dup, is_sized, rise_within};
 ghost use Rattle.run_model.specs.Views.{View, start_at, view_of};
 ghost use Rattle.srr_entry.specs.declared.entry.Mark.TheVariants.{Nothing, Inside, Outside};
 ghost use Rattle.srr_entry.specs.declared.entry.Marked.{Marked};
 ghost use Rattle.srr_entry.specs.Entries.{is_inner};
-ghost use Rattle.replay_model.specs.Fits.{fits, mark_fits, marks_fit};
+ghost use Rattle.replay_model.specs.Fits.{entry_fits, mark_fits, marks_fit};
 
 use crate::indexed_history::IndexedHistory;
 use crate::next_call::NextCall;
@@ -24,10 +24,10 @@ use srr_entry::entry::{Entry, Mark, Marked, do_indices_rise};
 use srr_entry::members::all_within;
 
 /// Whether an entry and the rank's call agree, as far as the rank's own earlier calls and replies tell.
-#[tactic(auto, unfolding(replay_model::specs::Fits::fits))]
+#[tactic(auto, unfolding(replay_model::specs::Fits::entry_fits))]
 pub fn fits(group: &[u8], seen: &IndexedHistory, asked: &NextCall<'_>, entry: &Entry) -> bool
     requires { IsInOrder seen.now.ranks asked.now.rank (view_of seen.now.events asked.now.rank) }
-    ensures { result ≡ fits seen.now.ranks group.now asked.now.rank (view_of seen.now.events asked.now.rank) asked.now.call.now entry.now }
+    ensures { result ≡ entry_fits seen.now.ranks group.now asked.now.rank (view_of seen.now.events asked.now.rank) asked.now.call.now entry.now }
 {
     let call = asked.call;
     match entry {
@@ -258,7 +258,7 @@ fn is_sized(seen: &IndexedHistory, rank: u8, call: &Call, len: usize) -> bool
 
 /// Whether these may be the members of a communicator that a collective makes for the rank.
 fn are_members(seen: &IndexedHistory, rank: u8, call: &Call, members: &[u8]) -> bool
-    ensures { result ≡ are_members seen.now.ranks rank call.now (members_in seen.now.ranks (view_of seen.now.events rank) (comm_of call.now)) members.now }
+    ensures { result ≡ are_members seen.now.ranks rank call.now (members_for_rank seen.now.ranks (view_of seen.now.events rank) (comm_of call.now)) members.now }
 {
     shape::are_members(seen.ranks(), rank, members)
         && (!is_dup(call) || are_same(seen.members(rank, comm_of(call)).as_slice(), members))

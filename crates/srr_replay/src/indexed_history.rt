@@ -2,13 +2,13 @@
 ghost use Rattle.std.specs.Prelude.{◌≡◌, ◌<◌, ◌++◌, ◌∷◌, [], IfOk, IfSome, OnOk, OnErr, true, length, option_map};
 ghost use Rattle.mpi_call.specs.Calls.{is_enter};
 ghost use Rattle.mpi_call.specs.Collectives.{is_member};
-ghost use Rattle.run_model.specs.Communicators.{enter_at, instance_of, is_on, known_in, members_in};
+ghost use Rattle.run_model.specs.Communicators.{enter_at, instance_of, is_on, known_in, members_for_rank};
 ghost use Rattle.run_model.specs.Views.{start_at, taken_of, view_of};
 ghost use Rattle.view_tables.specs.EnterTable.{AreEntersKnown};
-ghost use Rattle.srr_replay.specs.IndexedHistory.{entered_of};
+ghost use Rattle.srr_replay.specs.inside.IndexedHistory.{entered_of};
 ghost use Rattle.view_tables.specs.StartTable.{TakesMade};
 
-use crate::counts::Counts;
+use crate::counts::RankCounts;
 use crate::note::prepare;
 use mpi_call::call::{Call, Comm};
 use mpi_call::lists::Ranks;
@@ -35,7 +35,7 @@ pub struct IndexedHistory {
     ranks: u8,
     events: History,
     /// How many calls each rank has made.
-    counts: Counts,
+    counts: RankCounts,
     /// The starts of each rank.
     starts: StartTable,
     /// The Enters of each rank.
@@ -51,17 +51,17 @@ pub struct IndexedHistory {
 impl Model for IndexedHistory {
     ghost use Rattle.std.specs.Prelude.{◌≡◌, []};
     ghost use Rattle.run_model.specs.Lists.{world as all_of};
-    ghost use Rattle.srr_replay.specs.Rounds.{AreCounts};
+    ghost use Rattle.srr_replay.specs.Rounds.{AreCallCounts};
     ghost use Rattle.view_tables.specs.EnterTable.{AreEntersKnown, IsEnterTable};
     ghost use Rattle.view_tables.specs.MemberTable.{IsMemberTable};
-    ghost use Rattle.srr_replay.specs.IndexedHistory.{EventsSoFar};
+    ghost use Rattle.srr_replay.specs.inside.IndexedHistory.{EventsSoFar};
     ghost use Rattle.view_tables.specs.StartTable.{IsStartTable};
 
     ghost Value = { EventsSoFar };
 
     ghost view = { λ s. record { ranks = s.ranks; events = s.events.events } };
 
-    ghost invariant = { λ s. AreCounts s.ranks s.events.events s.counts × IsStartTable s.ranks s.events.events s.starts × (s.world ≡ all_of s.ranks 0) × (s.nobody ≡ []) × IsEnterTable s.ranks s.events.events s.enters × AreEntersKnown s.ranks s.events.events × IsMemberTable s.ranks s.events.events s.members };
+    ghost invariant = { λ s. AreCallCounts s.ranks s.events.events s.counts × IsStartTable s.ranks s.events.events s.starts × (s.world ≡ all_of s.ranks 0) × (s.nobody ≡ []) × IsEnterTable s.ranks s.events.events s.enters × AreEntersKnown s.ranks s.events.events × IsMemberTable s.ranks s.events.events s.members };
 }
 
 impl IndexedHistory {
@@ -69,7 +69,7 @@ impl IndexedHistory {
     pub fn new(alloc: Global, ranks: u8) -> Result<Self, AllocError>
         ensures { IfOk result (λ seen. seen ≡ record { ranks = ranks; events = [] }) }
     {
-        let counts = Counts::new(alloc, ranks)?;
+        let counts = RankCounts::new(alloc, ranks)?;
         let starts = StartTable::new(alloc, ranks)?;
         let enters = EnterTable::new(alloc, ranks)?;
         let members = MemberTable::new(alloc, ranks)?;
@@ -137,7 +137,7 @@ impl IndexedHistory {
 
     /// The members of a communicator for a rank; none where it doesn't know it.
     pub fn members(&self, rank: u8, comm: Comm) -> &Ranks
-        ensures { result.now ≡ members_in self.now.ranks (view_of self.now.events rank) comm }
+        ensures { result.now ≡ members_for_rank self.now.ranks (view_of self.now.events rank) comm }
     {
         match self.known(rank, comm) {
             Some(members) => members,

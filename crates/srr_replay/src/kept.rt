@@ -1,6 +1,6 @@
 //! The calls that ranks wait with, kept so that their runs are not asked again.
 ghost use Rattle.std.specs.Prelude.{◌≡◌, IfOk, None, OnOk, replicate, true};
-ghost use Rattle.srr_replay.specs.Kept.{IsKept};
+ghost use Rattle.srr_replay.specs.inside.Kept.{IsKeptCall};
 
 use mpi_call::call::Call;
 use run_model::program::{Program, RankRun, Want};
@@ -22,7 +22,7 @@ pub fn next_call<P: Program, R: RankRun<Of = P>>(
     run: &mut R,
     kept: &mut Option<Call>,
 ) -> Result<Option<Call>, AllocError>
-    requires { IsKept P.next (R.standing run.old) kept.old }
+    requires { IsKeptCall P.next (R.standing run.old) kept.old }
     ensures kept { kept.new ≡ None }
     ensures run { OnOk result (R.standing run.new ≡ record (R.standing run.old) { asked = true }) }
     ensures call { IfOk result (λ call. call ≡ P.next (R.standing run.old).program (R.standing run.old).ranks (R.standing run.old).rank (R.standing run.old).replies) }

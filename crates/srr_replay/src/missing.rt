@@ -6,8 +6,8 @@ ghost use Rattle.run_model.specs.Communicators.{enter_at};
 ghost use Rattle.run_model.specs.Forms.{IsInOrder};
 ghost use Rattle.run_model.specs.Inputs.{gather, inputs_of};
 ghost use Rattle.run_model.specs.Views.{start_at, view_of};
-ghost use Rattle.replay_model.specs.Filling.{absent_of, fill_inner, fill_made, fill_mark, fill_marks, filled, joined, made_new, message_from, missing_of, peeked_from};
-ghost use Rattle.replay_model.specs.Fits.{IsEnterAt, fits, mark_fits, marks_fit};
+ghost use Rattle.replay_model.specs.Filling.{absent_of, asker_of, fill_inner, fill_made, fill_mark, fill_marks, filled_message, filled_reply, joined_result, made_new, missing_of, peeked_from};
+ghost use Rattle.replay_model.specs.Fits.{IsEnterAt, entry_fits, mark_fits, marks_fit};
 ghost use Rattle.srr_replay.specs.Places.{AreThere};
 
 use crate::fit::comm_of;
@@ -21,7 +21,7 @@ use srr_entry::entry::{Entry, Mark, Marked};
 
 /// The first thing that an entry rests on and that is not there, in item order and then in member order, and how many marks come
 /// before the one that it is missing for. The first `from` marks are not looked at. Takes no memory.
-#[tactic(auto, unfolding(replay_model::specs::Fits::fits))]
+#[tactic(auto, unfolding(replay_model::specs::Fits::entry_fits))]
 pub fn find_missing(
     seen: &IndexedHistory,
     asked: &NextCall<'_>,
@@ -29,9 +29,9 @@ pub fn find_missing(
     from: usize,
 ) -> Option<(usize, Missing)>
     requires order { IsInOrder seen.now.ranks asked.now.rank (view_of seen.now.events asked.now.rank) }
-    requires fits { (group : List ℕ) × (fits seen.now.ranks group asked.now.rank (view_of seen.now.events asked.now.rank) asked.now.call.now entry.now ≡ true) }
+    requires fits { (group : List ℕ) × (entry_fits seen.now.ranks group asked.now.rank (view_of seen.now.events asked.now.rank) asked.now.call.now entry.now ≡ true) }
     requires there { AreThere seen.now.ranks seen.now.events asked.now.rank asked.now.call.now entry.now from }
-    ensures missing { option_map (λ found. found.1) result ≡ missing_of (filled seen.now.ranks (view_of seen.now.events) asked.now.rank (view_of seen.now.events asked.now.rank) asked.now.call.now entry.now) }
+    ensures missing { option_map (λ found. found.1) result ≡ missing_of (filled_reply seen.now.ranks (view_of seen.now.events) asked.now.rank (view_of seen.now.events asked.now.rank) asked.now.call.now entry.now) }
     ensures there { IfSome result (λ found. AreThere seen.now.ranks seen.now.events asked.now.rank asked.now.call.now entry.now found.0) }
 {
     match entry {
@@ -108,7 +108,7 @@ fn missing_in_mark(seen: &IndexedHistory, rank: u8, start: u32, mark: &Mark) -> 
 
 /// The named start of a message, where it is not there.
 fn missing_sent(seen: &IndexedHistory, source: u8, start: u32) -> Option<Missing>
-    ensures { result ≡ missing_of (message_from source start (start_at (view_of seen.now.events source) start)) }
+    ensures { result ≡ missing_of (filled_message source start (start_at (view_of seen.now.events source) start)) }
 {
     match seen.start(source, start) {
         Some(_) => None,
@@ -121,7 +121,7 @@ fn missing_entered(seen: &IndexedHistory, rank: u8, start: u32) -> Option<Missin
     requires order { IsInOrder seen.now.ranks rank (view_of seen.now.events rank) }
     requires enter { IsEnterAt (view_of seen.now.events rank) start }
     ensures inner { result ≡ missing_of (fill_inner seen.now.ranks (view_of seen.now.events) rank (view_of seen.now.events rank) start (start_at (view_of seen.now.events rank) start)) }
-    ensures made { (comm : ℕ) → result ≡ missing_of (fill_made comm seen.now.ranks (view_of seen.now.events) rank (view_of seen.now.events rank) start (start_at (view_of seen.now.events rank) start)) }
+    ensures made { (comm : ℕ) → result ≡ missing_of (fill_made comm (view_of seen.now.events) (asker_of seen.now.ranks rank (view_of seen.now.events rank)) start (start_at (view_of seen.now.events rank) start)) }
 {
     match seen.start(rank, start) {
         Some(call) => missing_for(seen, rank, start, call),
@@ -134,8 +134,8 @@ fn missing_for(seen: &IndexedHistory, rank: u8, start: u32, call: &Call) -> Opti
     requires order { IsInOrder seen.now.ranks rank (view_of seen.now.events rank) }
     requires start { start_at (view_of seen.now.events rank) start ≡ Some call.now }
     requires enter { is_enter call.now ≡ true }
-    ensures inner { result ≡ missing_of (joined seen.now.ranks rank (view_of seen.now.events rank) start call.now (inputs_of seen.now.ranks (view_of seen.now.events) rank (view_of seen.now.events rank) start call.now)) }
-    ensures made { (comm : ℕ) → result ≡ missing_of (made_new comm seen.now.ranks rank (view_of seen.now.events rank) start call.now (inputs_of seen.now.ranks (view_of seen.now.events) rank (view_of seen.now.events rank) start call.now)) }
+    ensures inner { result ≡ missing_of (joined_result seen.now.ranks rank (view_of seen.now.events rank) start call.now (inputs_of seen.now.ranks (view_of seen.now.events) rank (view_of seen.now.events rank) start call.now)) }
+    ensures made { (comm : ℕ) → result ≡ missing_of (made_new comm (asker_of seen.now.ranks rank (view_of seen.now.events rank)) start call.now (inputs_of seen.now.ranks (view_of seen.now.events) rank (view_of seen.now.events rank) start call.now)) }
 {
     let comm = comm_of(call);
     let instance = seen.instance(rank, start, comm);

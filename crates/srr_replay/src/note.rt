@@ -1,7 +1,7 @@
 //! Noting an event in the tables.
 ghost use Rattle.std.specs.Prelude.{◌≡◌, ◌<◌, ◌+◌, ◌^◌, ◌++◌, ◌∷◌, [], OnErr, OnOk, length};
 ghost use Rattle.run_model.specs.Views.{view_of};
-ghost use Rattle.view_tables.specs.EnterTable.{IsEnterTable, entered_by};
+ghost use Rattle.view_tables.specs.EnterTable.{IsEnterTable, entered_comm};
 ghost use Rattle.view_tables.specs.MemberTable.{IsMemberTable};
 ghost use Rattle.view_tables.specs.StartTable.{IsStartTable, TakesMade};
 
@@ -16,7 +16,7 @@ use view_tables::start_table::StartTable;
 
 /// The communicator of a call that is an Enter, made.
 fn entered_by(call: &Call, reply: &Reply) -> Option<Comm>
-    ensures { result ≡ entered_by call.now reply.now }
+    ensures { result ≡ entered_comm call.now reply.now }
 {
     match call {
         Call::Enter { comm, .. } => match reply {

@@ -7,11 +7,11 @@ use std::marker::Model;
 /// For each rank the number of marks of its next entry that an attempt need not look at again, once it has waited at that entry.
 /// Contracts see a list.
 #[derive(Drop)]
-pub struct Places {
+pub struct MarksPassed {
     values: Vec<Option<usize>>,
 }
 
-impl Model for Places {
+impl Model for MarksPassed {
     ghost use Rattle.std.specs.Prelude.{List, Option, ℕ};
 
     ghost Value = { List (Option ℕ) };
@@ -19,14 +19,14 @@ impl Model for Places {
     ghost view = { λ s. s.values.items };
 }
 
-impl Places {
+impl MarksPassed {
     /// No places of `ranks` ranks.
     pub fn new(alloc: Global, ranks: u8) -> Result<Self, AllocError>
         ensures { IfOk result (λ places. places ≡ replicate ranks None) }
     {
         let mut values = Vec::new(alloc);
         values.resize(ranks as usize, None)?;
-        Ok(Places { values })
+        Ok(MarksPassed { values })
     }
 
     /// The place of a rank.

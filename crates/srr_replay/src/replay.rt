@@ -4,14 +4,14 @@ ghost use Rattle.mpi_call.specs.Collectives.{is_member};
 ghost use Rattle.mpi_call.specs.declared.reply.Reply.{Reply};
 ghost use Rattle.run_model.specs.Program.{MayGive};
 ghost use Rattle.run_model.specs.Views.{view_of, replies_in};
-ghost use Rattle.replay_model.specs.Replays.{answer_of, events_after, event_of, takes_none, Replays};
+ghost use Rattle.replay_model.specs.Replays.{replay_answer, events_after, replied_event, copies_nothing, Replays};
 ghost use Rattle.srr_replay.specs.Rounds.{IsReplayable};
 ghost use Rattle.replay_model.specs.declared.step.Step.TheVariants.{Replied};
 
 use crate::answer::answer;
 use crate::indexed_history::IndexedHistory;
 use crate::next_call::NextCall;
-use crate::places::Places;
+use crate::places::MarksPassed;
 use mpi_call::call::Call;
 use mpi_call::reply::Reply;
 use mpi_call::{call, reply};
@@ -31,7 +31,7 @@ pub struct Replay<'a, P: Program> {
     stop: Option<(u8, u32)>,
     seen: IndexedHistory,
     /// Where each rank's next attempt begins, if it has waited at its entry. No contract speaks of them.
-    places: Places,
+    places: MarksPassed,
     alloc: Global,
 }
 
@@ -61,7 +61,7 @@ impl<'a, P: Program> Replay<'a, P> {
         ensures { IfOk result (λ r. r ≡ record { program = program.now; log = log.now; stop = stop; events = [] }) }
     {
         let seen = IndexedHistory::new(alloc, log.ranks)?;
-        let places = Places::new(alloc, log.ranks)?;
+        let places = MarksPassed::new(alloc, log.ranks)?;
         Ok(Replay {
             program,
             log,
@@ -76,12 +76,12 @@ impl<'a, P: Program> Replay<'a, P> {
     pub fn attempt(&mut self, rank: u8, call: &Call) -> Result<Step, AllocError>
         requires member { is_member self.old.log.group rank ≡ true }
         requires next { P.next self.old.program self.old.log.ranks rank (replies_in (view_of self.old.events rank)) ≡ Some call.now }
-        ensures answer { IfOk result (λ step. step ≡ answer_of self.old.log self.old.stop (view_of self.old.events) rank (view_of self.old.events rank) call.now) }
+        ensures answer { IfOk result (λ step. step ≡ replay_answer self.old.log self.old.stop (view_of self.old.events) rank (view_of self.old.events rank) call.now) }
         ensures events { IfOk result (λ step. self.new ≡ record self.old { events = events_after self.old.events rank call.now step }) }
         ensures shape { IfOk result (λ step. (reply : Reply) → step ≡ Replied reply → MayGive (P.next self.old.program) self.old.log.ranks rank (replies_in (view_of self.old.events rank)) reply) }
 
         // That the rank is at its breakpoint or its log's end, or waits, takes no memory.
-        ensures sure { takes_none (answer_of self.old.log self.old.stop (view_of self.old.events) rank (view_of self.old.events rank) call.now) ≡ true → IsOk result }
+        ensures sure { copies_nothing (replay_answer self.old.log self.old.stop (view_of self.old.events) rank (view_of self.old.events rank) call.now) ≡ true → IsOk result }
         ensures err { OnErr result (self.new ≡ self.old) }
     {
         match self.answer(rank, call)? {
@@ -98,9 +98,9 @@ impl<'a, P: Program> Replay<'a, P> {
         requires member { is_member self.old.log.group rank ≡ true }
         requires next { P.next self.old.program self.old.log.ranks rank (replies_in (view_of self.old.events rank)) ≡ Some call.now }
         ensures same { self.new ≡ self.old }
-        ensures answer { IfOk result (λ step. step ≡ answer_of self.old.log self.old.stop (view_of self.old.events) rank (view_of self.old.events rank) call.now) }
+        ensures answer { IfOk result (λ step. step ≡ replay_answer self.old.log self.old.stop (view_of self.old.events) rank (view_of self.old.events rank) call.now) }
         ensures shape { IfOk result (λ step. (reply : Reply) → step ≡ Replied reply → MayGive (P.next self.old.program) self.old.log.ranks rank (replies_in (view_of self.old.events rank)) reply) }
-        ensures sure { takes_none (answer_of self.old.log self.old.stop (view_of self.old.events) rank (view_of self.old.events rank) call.now) ≡ true → IsOk result }
+        ensures sure { copies_nothing (replay_answer self.old.log self.old.stop (view_of self.old.events) rank (view_of self.old.events rank) call.now) ≡ true → IsOk result }
     {
         let number = self.seen.count(rank);
         let asked = NextCall { rank, number, call };
@@ -116,8 +116,8 @@ impl<'a, P: Program> Replay<'a, P> {
     fn append(&mut self, rank: u8, call: &Call, reply: &Reply) -> Result<(), AllocError>
         requires member { is_member self.old.log.group rank ≡ true }
         requires next { P.next self.old.program self.old.log.ranks rank (replies_in (view_of self.old.events rank)) ≡ Some call.now }
-        requires answer { answer_of self.old.log self.old.stop (view_of self.old.events) rank (view_of self.old.events rank) call.now ≡ Replied reply.now }
-        ensures ok { OnOk result (self.new ≡ record self.old { events = self.old.events ++ event_of rank call.now reply.now ∷ [] }) }
+        requires answer { replay_answer self.old.log self.old.stop (view_of self.old.events) rank (view_of self.old.events rank) call.now ≡ Replied reply.now }
+        ensures ok { OnOk result (self.new ≡ record self.old { events = self.old.events ++ replied_event rank call.now reply.now ∷ [] }) }
         ensures err { OnErr result (self.new ≡ self.old) }
     {
         let event = event_of(rank, call, reply)?;
@@ -162,7 +162,7 @@ impl<'a, P: Program> Replay<'a, P> {
 
 /// The event of a reply, which it copies with the call.
 fn event_of(rank: u8, call: &Call, reply: &Reply) -> Result<Event, AllocError>
-    ensures { IfOk result (λ event. event ≡ event_of rank call.now reply.now) }
+    ensures { IfOk result (λ event. event ≡ replied_event rank call.now reply.now) }
 {
     let reply = reply::copy_of(reply)?;
     let call = call::copy_of(call)?;

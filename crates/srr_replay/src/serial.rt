@@ -7,8 +7,8 @@ ghost use Rattle.run_model.specs.Program.{IsAfter};
 ghost use Rattle.run_model.specs.Views.{view_of, replies_in};
 ghost use Rattle.replay_model.specs.Laws.{IsReplayOfEveryRun};
 ghost use Rattle.replay_model.specs.Replays.{IsExhausted, IsWholeReplay, Replays};
-ghost use Rattle.srr_replay.specs.Kept.{AreKept, IsKept};
-ghost use Rattle.srr_replay.specs.Rounds.{AreRounds, GrowsBy, HasNoStep, IsReplayable, RunAll, SameReplay, attempt, attempts};
+ghost use Rattle.srr_replay.specs.inside.Kept.{AreCallsOfRuns, IsKeptCall};
+ghost use Rattle.srr_replay.specs.Rounds.{AreReplayedRounds, GrowsBy, HasNoStep, IsReplayable, RunAll, SameReplay, replay_attempt, replay_attempts};
 ghost use Rattle.replay_model.specs.Stands.{IsReplayed, stand_of};
 ghost use Rattle.srr_entry.specs.Outputs.{printed_of};
 
@@ -35,13 +35,13 @@ fn try_rank<P: Program, R: RankRun<Of = P>>(
 ) -> Result<bool, AllocError>
     requires member { is_member replay.old.log.group rank ≡ true }
     requires run { IsAfter replay.old.program replay.old.log.ranks rank replay.old.events (R.standing run.old) }
-    requires kept { IsKept P.next (R.standing run.old) kept.old }
+    requires kept { IsKeptCall P.next (R.standing run.old) kept.old }
     ensures same { SameReplay replay.old replay.new }
     ensures run { OnOk result (IsAfter replay.old.program replay.old.log.ranks rank replay.new.events (R.standing run.new)) }
-    ensures kept { OnOk result (IsKept P.next (R.standing run.new) kept.new) }
+    ensures kept { OnOk result (IsKeptCall P.next (R.standing run.new) kept.new) }
     ensures grows { IfOk result (λ moved. GrowsBy rank replay.old.events replay.new.events moved) }
     ensures rests { IfOk result (λ moved. moved ≡ false → HasNoStep (P.next replay.old.program) replay.old.log replay.old.stop replay.old.events rank) }
-    ensures goes { OnOk result (replay.new.events ≡ attempt (P.next replay.old.program) replay.old.log replay.old.stop replay.old.events rank) }
+    ensures goes { OnOk result (replay.new.events ≡ replay_attempt (P.next replay.old.program) replay.old.log replay.old.stop replay.old.events rank) }
 {
     let Some(call) = next_call(run, kept)? else {
         return Ok(false);
@@ -69,7 +69,7 @@ fn try_call<P: Program, R: RankRun<Of = P>>(
     ensures stays { IfOk result (λ moved. moved ≡ false → R.standing run.new ≡ R.standing run.old) }
     ensures grows { IfOk result (λ moved. GrowsBy rank replay.old.events replay.new.events moved) }
     ensures rests { IfOk result (λ moved. moved ≡ false → HasNoStep (P.next replay.old.program) replay.old.log replay.old.stop replay.old.events rank) }
-    ensures goes { OnOk result (replay.new.events ≡ attempt (P.next replay.old.program) replay.old.log replay.old.stop replay.old.events rank) }
+    ensures goes { OnOk result (replay.new.events ≡ replay_attempt (P.next replay.old.program) replay.old.log replay.old.stop replay.old.events rank) }
 {
     match replay.attempt(rank, call)? {
         Step::Replied(reply) => {
@@ -90,15 +90,15 @@ fn round<P: Program, R: RankRun<Of = P>>(
     requires group { group.now ≡ replay.old.log.group }
     requires distinct { is_distinct replay.old.log.group ≡ true }
     requires runs { RunAll R.standing replay.old.program replay.old.log replay.old.events runs.old }
-    requires kept { AreKept P.next R.standing runs.old kept.old }
+    requires kept { AreCallsOfRuns P.next R.standing runs.old kept.old }
     ensures same { SameReplay replay.old replay.new }
     ensures runs { OnOk result (RunAll R.standing replay.old.program replay.old.log replay.new.events runs.new) }
-    ensures kept { OnOk result (AreKept P.next R.standing runs.new kept.new) }
+    ensures kept { OnOk result (AreCallsOfRuns P.next R.standing runs.new kept.new) }
     ensures begins { OnOk result (IsPrefixOf replay.old.events replay.new.events) }
     ensures moved { IfOk result (λ moved. moved ≡ true → length replay.old.events < length replay.new.events) }
     ensures still { IfOk result (λ moved. moved ≡ false → replay.new.events ≡ replay.old.events) }
     ensures rests { IfOk result (λ moved. moved ≡ false → IsExhausted (P.next replay.old.program) replay.old.log replay.old.stop replay.new.events) }
-    ensures goes { OnOk result (replay.new.events ≡ attempts (P.next replay.old.program) replay.old.log replay.old.stop replay.old.events replay.old.log.group) }
+    ensures goes { OnOk result (replay.new.events ≡ replay_attempts (P.next replay.old.program) replay.old.log replay.old.stop replay.old.events replay.old.log.group) }
 {
     let mut moved = false;
     for (k, run) in runs.iter_mut().enumerate() {
@@ -120,7 +120,7 @@ pub fn replay_serial<P: Program, R: RankRun<Of = P>>(
 ) -> Result<Replayed, AllocError>
     requires log { IsReplayable log.now }
     requires runs { RunAll R.standing program.now log.now [] runs.items }
-    ensures rounds { IfOk result (λ replayed. AreRounds (P.next program.now) log.now stop [] replayed.events.events) }
+    ensures rounds { IfOk result (λ replayed. AreReplayedRounds (P.next program.now) log.now stop [] replayed.events.events) }
     ensures replay { IfOk result (λ replayed. IsReplayed (P.next program.now) (P.output program.now) (P.variables program.now) log.now stop replayed) }
     ensures runs { IfOk result (λ replayed. IsReplayOfEveryRun (P.next program.now) (P.output program.now) log.now stop replayed) }
     ensures alike { IfOk result (λ replayed. (other : List Event) → IsWholeReplay (P.next program.now) log.now stop other → (rank : ℕ) → view_of replayed.events.events rank ≡ view_of other rank) }
@@ -139,7 +139,7 @@ pub fn finish_replay<P: Program, R: RankRun<Of = P>>(
 ) -> Result<Replayed, AllocError>
     requires runs { RunAll R.standing replay.program replay.log replay.events runs.items }
     ensures begins { IfOk result (λ replayed. IsPrefixOf replay.entry.events replayed.events.events) }
-    ensures rounds { IfOk result (λ replayed. AreRounds (P.next replay.entry.program) replay.entry.log replay.entry.stop replay.entry.events replayed.events.events) }
+    ensures rounds { IfOk result (λ replayed. AreReplayedRounds (P.next replay.entry.program) replay.entry.log replay.entry.stop replay.entry.events replayed.events.events) }
     ensures replay { IfOk result (λ replayed. IsReplayed (P.next replay.entry.program) (P.output replay.entry.program) (P.variables replay.entry.program) replay.entry.log replay.entry.stop replayed) }
     ensures runs { IfOk result (λ replayed. IsReplayOfEveryRun (P.next replay.entry.program) (P.output replay.entry.program) replay.entry.log replay.entry.stop replayed) }
     ensures alike { IfOk result (λ replayed. (other : List Event) → IsWholeReplay (P.next replay.entry.program) replay.entry.log replay.entry.stop other → (rank : ℕ) → view_of replayed.events.events rank ≡ view_of other rank) }
@@ -175,7 +175,7 @@ fn finish<P: Program, R: RankRun<Of = P>>(
 ) -> Result<Replayed, AllocError>
     requires runs { RunAll R.standing replay.program replay.log replay.events runs.old }
     ensures begins { IfOk result (λ replayed. IsPrefixOf replay.entry.events replayed.events.events) }
-    ensures rounds { IfOk result (λ replayed. AreRounds (P.next replay.entry.program) replay.entry.log replay.entry.stop replay.entry.events replayed.events.events) }
+    ensures rounds { IfOk result (λ replayed. AreReplayedRounds (P.next replay.entry.program) replay.entry.log replay.entry.stop replay.entry.events replayed.events.events) }
     ensures replay { IfOk result (λ replayed. IsReplayed (P.next replay.entry.program) (P.output replay.entry.program) (P.variables replay.entry.program) replay.entry.log replay.entry.stop replayed) }
 {
     let (_, log, _) = replay.told();
@@ -194,7 +194,7 @@ fn replay_all<P: Program, R: RankRun<Of = P>>(
 ) -> Result<Replayed, AllocError>
     requires log { IsReplayable log.now }
     requires runs { RunAll R.standing program.now log.now [] runs.old }
-    ensures rounds { IfOk result (λ replayed. AreRounds (P.next program.now) log.now stop [] replayed.events.events) }
+    ensures rounds { IfOk result (λ replayed. AreReplayedRounds (P.next program.now) log.now stop [] replayed.events.events) }
     ensures replay { IfOk result (λ replayed. IsReplayed (P.next program.now) (P.output program.now) (P.variables program.now) log.now stop replayed) }
 {
     let replay = Replay::new(alloc, program, log, stop)?;
@@ -239,7 +239,7 @@ fn run_all<P: Program, R: RankRun<Of = P>>(
     ensures begins { OnOk result (IsPrefixOf replay.old.events replay.new.events) }
     ensures same { SameReplay replay.old replay.new }
     ensures rests { OnOk result (IsExhausted (P.next replay.old.program) replay.old.log replay.old.stop replay.new.events) }
-    ensures rounds { OnOk result (AreRounds (P.next replay.old.program) replay.old.log replay.old.stop replay.old.events replay.new.events) }
+    ensures rounds { OnOk result (AreReplayedRounds (P.next replay.old.program) replay.old.log replay.old.stop replay.old.events replay.new.events) }
     ensures outputs { IfOk result (λ found. found.outputs ≡ map (printed_of (P.output replay.old.program) replay.old.log.ranks replay.new.events) replay.old.log.group) }
     ensures stands { IfOk result (λ found. map Some found.stands ≡ map (stand_of (P.next replay.old.program) (P.variables replay.old.program) replay.old.log replay.old.stop replay.new.events) replay.old.log.group) }
 {
@@ -258,12 +258,12 @@ fn exhaust<P: Program, R: RankRun<Of = P>>(
     requires group { group.now ≡ replay.old.log.group }
     requires distinct { is_distinct replay.old.log.group ≡ true }
     requires runs { RunAll R.standing replay.old.program replay.old.log replay.old.events runs.old }
-    requires kept { AreKept P.next R.standing runs.old kept.old }
+    requires kept { AreCallsOfRuns P.next R.standing runs.old kept.old }
     ensures begins { OnOk result (IsPrefixOf replay.old.events replay.new.events) }
     ensures same { SameReplay replay.old replay.new }
     ensures runs { OnOk result (RunAll R.standing replay.old.program replay.old.log replay.new.events runs.new) }
     ensures rests { OnOk result (IsExhausted (P.next replay.old.program) replay.old.log replay.old.stop replay.new.events) }
-    ensures rounds { OnOk result (AreRounds (P.next replay.old.program) replay.old.log replay.old.stop replay.old.events replay.new.events) }
+    ensures rounds { OnOk result (AreReplayedRounds (P.next replay.old.program) replay.old.log replay.old.stop replay.old.events replay.new.events) }
 {
     // For the proof that the loop ends: the number of events is below 2^32, and each round adds to it.
     let mut count = replay.len();

@@ -8,7 +8,7 @@ use Rattle.mpi_call.specs.declared.call.Source.{Source}
 use Rattle.mpi_call.specs.declared.call.Source.TheVariants.{Any, From, Null}
 use Rattle.mpi_call.specs.declared.call.Tag.{Tag}
 use Rattle.mpi_call.specs.declared.call.Tag.TheVariants.{Any as AnyTag, Is}
-use Rattle.msg_races.specs.Listing.{joined as for_ranks}
+use Rattle.msg_races.specs.Listing.{lists_below as for_ranks}
 use Rattle.run_model.specs.declared.ending.Ending.{Ending}
 use Rattle.run_model.specs.declared.ending.Ending.TheVariants.{Halted}
 use Rattle.run_text.specs.CallTexts.{joined, numbers_text}
@@ -17,9 +17,9 @@ use Rattle.wait_graph.specs.declared.graph.Graph.{Graph}
 use Rattle.wait_graph.specs.declared.wait.Wait.{Wait}
 use Rattle.wiz_base.specs.Decimals.{decimal_text}
 use Rattle.svg_text.specs.declared.endings.Arc.{Arc}
-use Rattle.svg_text.specs.declared.filling.Part.TheVariants.{Number}
+use Rattle.svg_text.specs.declared.filling.Filler.TheVariants.{Number}
 use Rattle.svg_text.specs.declared.grid.Grid.{Grid}
-use Rattle.svg_text.specs.Filling.{filled}
+use Rattle.svg_text.specs.Filling.{filled_text}
 use Rattle.svg_text.specs.Grids.{distance, y_of}
 
 -- the ranks that are stuck, and the cycles, where a run is halted as stuck
@@ -74,7 +74,7 @@ arrives_at y from to = if nat_lt from to then y - 7 else y + 7
 
 abbrev pub arc_text : Grid → ℕ → Arc → List ℕ
 arc_text grid right arc =
-    filled (codes "<path class=\"m\" stroke=\"#d21f1f\" d=\"M% %C% % % % % %\" marker-end=\"url(#r)\"/>\n")
+    filled_text (codes "<path class=\"m\" stroke=\"#d21f1f\" d=\"M% %C% % % % % %\" marker-end=\"url(#r)\"/>\n")
     (Number (right - 10) ∷ Number (leaves_at (y_of grid arc.from) arc.from arc.to)
     ∷ Number (arc_out (right - 10) arc.from arc.to) ∷ Number (leaves_at (y_of grid arc.from) arc.from arc.to)
     ∷ Number (arc_out (right - 10) arc.from arc.to) ∷ Number (arrives_at (y_of grid arc.to) arc.from arc.to)
@@ -85,27 +85,27 @@ abbrev pub round_text : List ℕ → List ℕ
 round_text [] = []
 round_text (rank ∷ ranks) = joined (codes " waits for ") decimal_text (rank ∷ ranks) ++ codes " waits for " ++ decimal_text rank
 
-abbrev pub cycle_text : ℕ → List ℕ → List ℕ
-cycle_text y ranks =
-    filled (codes "<text class=\"b\" x=\"16\" y=\"%\">cycle: ") (Number y ∷ []) ++ round_text ranks ++ codes "</text>\n"
+abbrev pub drawn_cycle_text : ℕ → List ℕ → List ℕ
+drawn_cycle_text y ranks =
+    filled_text (codes "<text class=\"b\" x=\"16\" y=\"%\">cycle: ") (Number y ∷ []) ++ round_text ranks ++ codes "</text>\n"
 
 -- the cycles, one below the other
 abbrev pub cycles_text : ℕ → List (List ℕ) → List ℕ
 cycles_text y [] = []
-cycles_text y (ranks ∷ cycles) = cycle_text y ranks ++ cycles_text (y + 14) cycles
+cycles_text y (ranks ∷ cycles) = drawn_cycle_text y ranks ++ cycles_text (y + 14) cycles
 
 -- what a rank waits for
-abbrev pub source_text : Source → List ℕ
-source_text Any = codes "any rank"
-source_text (From rank) = codes "rank " ++ decimal_text rank
-source_text Null = codes "no rank"
+abbrev pub awaited_source_text : Source → List ℕ
+awaited_source_text Any = codes "any rank"
+awaited_source_text (From rank) = codes "rank " ++ decimal_text rank
+awaited_source_text Null = codes "no rank"
 
-abbrev pub tag_text : Tag → List ℕ
-tag_text AnyTag = codes "any tag"
-tag_text (Is tag) = codes "tag " ++ decimal_text tag
+abbrev pub awaited_tag_text : Tag → List ℕ
+awaited_tag_text AnyTag = codes "any tag"
+awaited_tag_text (Is tag) = codes "tag " ++ decimal_text tag
 
-abbrev pub message_text : Source → Tag → List ℕ
-message_text source tag = codes "waits for " ++ source_text source ++ codes ", " ++ tag_text tag
+abbrev pub awaited_message_text : Source → Tag → List ℕ
+awaited_message_text source tag = codes "waits for " ++ awaited_source_text source ++ codes ", " ++ awaited_tag_text tag
 
 abbrev pub receiver_text : ℕ → List ℕ
 receiver_text receiver = codes "waits for rank " ++ decimal_text receiver ++ codes " to receive"
@@ -113,21 +113,21 @@ receiver_text receiver = codes "waits for rank " ++ decimal_text receiver ++ cod
 abbrev pub entering_text : List ℕ → List ℕ
 entering_text awaited = codes "waits for " ++ numbers_text awaited ++ codes " to enter"
 
-abbrev pub wait_text : Call → List ℕ → List ℕ
-wait_text (Send comm dest tag ints sync) awaited = receiver_text dest
-wait_text (Post comm source tag room) awaited = message_text source tag
-wait_text (Enter comm kind root op count ints) awaited = entering_text awaited
-wait_text (Peek comm source tag wait) awaited = message_text source tag
-wait_text call awaited = []
+abbrev pub drawn_wait_text : Call → List ℕ → List ℕ
+drawn_wait_text (Send comm dest tag ints sync) awaited = receiver_text dest
+drawn_wait_text (Post comm source tag room) awaited = awaited_message_text source tag
+drawn_wait_text (Enter comm kind root op count ints) awaited = entering_text awaited
+drawn_wait_text (Peek comm source tag wait) awaited = awaited_message_text source tag
+drawn_wait_text call awaited = []
 
 -- nobody for whom it waits is there still
-abbrev pub ended_text : Bool → List ℕ
-ended_text is_there = if is_there then [] else codes ", which has ended"
+abbrev pub has_ended_text : Bool → List ℕ
+has_ended_text is_there = if is_there then [] else codes ", which has ended"
 
 -- the first thing that a rank waits for
-abbrev pub waiting_text : List Blocked → List Wait → List ℕ
-waiting_text all [] = []
-waiting_text all (wait ∷ waits) = wait_text wait.call wait.awaited ++ ended_text (list_any (is_blocked all) wait.awaited)
+abbrev pub drawn_waiting_text : List Blocked → List Wait → List ℕ
+drawn_waiting_text all [] = []
+drawn_waiting_text all (wait ∷ waits) = drawn_wait_text wait.call wait.awaited ++ has_ended_text (list_any (is_blocked all) wait.awaited)
 
 -- a byte of an output: escaped where XML needs it; a newline is \n, and what is not plain a point
 abbrev pub plain_text : ℕ → List ℕ
@@ -143,19 +143,19 @@ byte_text byte =
 abbrev pub dots_text : ℕ → List ℕ
 dots_text count = if nat_lt 30 count then codes ".." else []
 
-abbrev pub output_text : List ℕ → List ℕ
-output_text output = dots_text (length output) ++ flat_map byte_text (drop (length output - 30) output)
+abbrev pub drawn_output_text : List ℕ → List ℕ
+drawn_output_text output = dots_text (length output) ++ flat_map byte_text (drop (length output - 30) output)
 
 -- what stands beside a lane: what the rank waits for, else what it printed
 abbrev pub beside_by : List Blocked → Option Blocked → List ℕ → List ℕ
-beside_by all None output = output_text output
-beside_by all (Some blocked) output = waiting_text all blocked.waits
+beside_by all None output = drawn_output_text output
+beside_by all (Some blocked) output = drawn_waiting_text all blocked.waits
 
-abbrev pub blocked_at : List Blocked → ℕ → Option Blocked
-blocked_at all rank = find (λ (blocked : Blocked). blocked.rank == rank) all
+abbrev pub blocked_rank : List Blocked → ℕ → Option Blocked
+blocked_rank all rank = find (λ (blocked : Blocked). blocked.rank == rank) all
 
 abbrev pub beside_text : List Blocked → ℕ → List ℕ → List ℕ
-beside_text all rank output = beside_by all (blocked_at all rank) output
+beside_text all rank output = beside_by all (blocked_rank all rank) output
 
 -- the texts of the ranks below a number, which printed these outputs
 abbrev pub beside_texts : List Blocked → List (List ℕ) → ℕ → List (List ℕ)
@@ -170,10 +170,10 @@ longest (text ∷ texts) = max (min (length text) 1000) (longest texts)
 abbrev pub style_text : Bool → List ℕ
 style_text stuck = if stuck then codes "<text class=\"b\"" else codes "<text class=\"t\""
 
-abbrev pub ending_text : Grid → List Blocked → ℕ → ℕ → List ℕ → List ℕ
-ending_text grid all x rank text =
-    style_text (is_blocked all rank) ++ filled (codes " x=\"%\" y=\"%\">") (Number x ∷ Number (y_of grid rank + 4) ∷ []) ++ text ++ codes "</text>\n"
+abbrev pub drawn_ending_text : Grid → List Blocked → ℕ → ℕ → List ℕ → List ℕ
+drawn_ending_text grid all x rank text =
+    style_text (is_blocked all rank) ++ filled_text (codes " x=\"%\" y=\"%\">") (Number x ∷ Number (y_of grid rank + 4) ∷ []) ++ text ++ codes "</text>\n"
 
 -- those of the ranks below a number
 abbrev pub endings_text : Grid → List Blocked → ℕ → List (List ℕ) → ℕ → List ℕ
-endings_text grid all x texts ranks = for_ranks (λ rank. ending_text grid all x rank (slice_index_or texts rank [])) ranks
+endings_text grid all x texts ranks = for_ranks (λ rank. drawn_ending_text grid all x rank (slice_index_or texts rank [])) ranks

@@ -1,8 +1,8 @@
 -- Texts with holes, and what fills them.
 use Rattle.std.specs.Prelude.{◌==◌, ◌%◌, ℕ, List, [], ◌∷◌, ◌++◌, codes, drop, if◌then◌else◌}
 use Rattle.wiz_base.specs.Decimals.{decimal_text}
-use Rattle.svg_text.specs.declared.filling.Part.{Part}
-use Rattle.svg_text.specs.declared.filling.Part.TheVariants.{Bad, Deep, Gray, Number, Pale, Wild}
+use Rattle.svg_text.specs.declared.filling.Filler.{Filler}
+use Rattle.svg_text.specs.declared.filling.Filler.TheVariants.{Bad, Deep, Gray, Number, Pale, Wild}
 
 -- the colours of groups, by their numbers modulo 8
 abbrev pub deep_text : ℕ → List ℕ
@@ -19,20 +19,20 @@ pale_text g =
     else if g == 6 then codes "#f4f1e4" else codes "#eeeef4"
 
 -- what fills a hole: a number, the colour of a group, or a colour of its own
-abbrev pub part_text : Part → List ℕ
-part_text (Number n) = decimal_text n
-part_text (Deep group) = deep_text (group % 8)
-part_text (Pale group) = pale_text (group % 8)
-part_text Wild = codes "#b8007a"
-part_text Bad = codes "#d21f1f"
-part_text Gray = codes "#8a8f98"
+abbrev pub filled_hole_text : Filler → List ℕ
+filled_hole_text (Number n) = decimal_text n
+filled_hole_text (Deep group) = deep_text (group % 8)
+filled_hole_text (Pale group) = pale_text (group % 8)
+filled_hole_text Wild = codes "#b8007a"
+filled_hole_text Bad = codes "#d21f1f"
+filled_hole_text Gray = codes "#8a8f98"
 
 -- what fills the first hole
-abbrev pub hole_text : List Part → List ℕ
+abbrev pub hole_text : List Filler → List ℕ
 hole_text [] = []
-hole_text (part ∷ parts) = part_text part
+hole_text (part ∷ parts) = filled_hole_text part
 
 -- a text in which each % is a hole, filled in order
-unfoldable pub filled : List ℕ → List Part → List ℕ
-filled [] parts = []
-filled (byte ∷ bytes) parts = if byte == 37 then hole_text parts ++ filled bytes (drop 1 parts) else byte ∷ filled bytes parts
+unfoldable pub filled_text : List ℕ → List Filler → List ℕ
+filled_text [] parts = []
+filled_text (byte ∷ bytes) parts = if byte == 37 then hole_text parts ++ filled_text bytes (drop 1 parts) else byte ∷ filled_text bytes parts

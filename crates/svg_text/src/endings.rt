@@ -4,10 +4,10 @@ ghost use Rattle.std.specs.List.{list_any};
 ghost use Rattle.run_model.specs.declared.ending.Ending.{Ending as EndingSpec};
 ghost use Rattle.run_text.specs.CallTexts.{joined, numbers_text};
 ghost use Rattle.wiz_base.specs.Decimals.{decimal_text};
-ghost use Rattle.svg_text.specs.Endings.{arc_out, arc_text, arc_to, arcs_of, arcs_of_rank, arcs_of_wait, arrives_at, beside, beside_by, beside_text, beside_texts, blocked_at, blocked_of, byte_text, cycle_text, cycles_of, cycles_text, dots_text, ended_text, ending_text, entering_text, endings_text, farthest, is_blocked, leaves_at, longest, message_text, most_cycles, output_text, plain_text, receiver_text, round_text, source_text, style_text, tag_text, wait_text, waiting_text};
+ghost use Rattle.svg_text.specs.Endings.{arc_out, arc_text, arc_to, arcs_of, arcs_of_rank, arcs_of_wait, arrives_at, beside, beside_by, beside_text, beside_texts, blocked_rank, blocked_of, byte_text, drawn_cycle_text, cycles_of, cycles_text, dots_text, has_ended_text, drawn_ending_text, entering_text, endings_text, farthest, is_blocked, leaves_at, longest, awaited_message_text, most_cycles, drawn_output_text, plain_text, receiver_text, round_text, awaited_source_text, style_text, awaited_tag_text, drawn_wait_text, drawn_waiting_text};
 ghost use Rattle.svg_text.specs.Grids.{distance, y_of};
 
-use crate::filling::{Part, push_filled};
+use crate::filling::{Filler, push_filled};
 use crate::grid::{Grid, distance};
 use mpi_call::call::{Call, Halt, Source, Tag};
 use mpi_call::lists::Ranks;
@@ -75,7 +75,7 @@ fn first_cycles<'a>(cycles: &'a [Ranks], count: usize) -> &'a [Ranks]
 
 /// The blocked rank, if a rank is stuck.
 fn blocked_at<'a>(all: &'a [Blocked], rank: u8) -> Option<&'a Blocked>
-    ensures { option_map (λ blocked. blocked.now) result ≡ blocked_at all.entry.now rank }
+    ensures { option_map (λ blocked. blocked.now) result ≡ blocked_rank all.entry.now rank }
 {
     let mut rest = all;
     while let [blocked, after @ ..] = rest {
@@ -254,14 +254,14 @@ pub fn push_arc(out: &mut Bytes, grid: &Grid, right: u64, arc: Arc) -> Result<()
         out,
         b"<path class=\"m\" stroke=\"#d21f1f\" d=\"M% %C% % % % % %\" marker-end=\"url(#r)\"/>\n",
         &[
-            Part::Number(right - 10),
-            Part::Number(begin),
-            Part::Number(bulge),
-            Part::Number(begin),
-            Part::Number(bulge),
-            Part::Number(end),
-            Part::Number(right - 8),
-            Part::Number(end),
+            Filler::Number(right - 10),
+            Filler::Number(begin),
+            Filler::Number(bulge),
+            Filler::Number(begin),
+            Filler::Number(bulge),
+            Filler::Number(end),
+            Filler::Number(right - 8),
+            Filler::Number(end),
         ],
     )?;
     Ok(())
@@ -301,12 +301,12 @@ fn push_nexts(out: &mut Bytes, others: &[u8]) -> Result<(), AllocError>
 }
 
 fn push_cycle(out: &mut Bytes, y: u64, ranks: &Ranks) -> Result<(), AllocError>
-    ensures { OnOk result (out.new ≡ out.old ++ cycle_text y ranks.now) }
+    ensures { OnOk result (out.new ≡ out.old ++ drawn_cycle_text y ranks.now) }
 {
     push_filled(
         out,
         b"<text class=\"b\" x=\"16\" y=\"%\">cycle: ",
-        &[Part::Number(y)],
+        &[Filler::Number(y)],
     )?;
     push_round(out, ranks.as_slice())?;
     push_text(out, b"</text>\n")?;
@@ -330,7 +330,7 @@ pub fn push_cycles(out: &mut Bytes, y: u64, cycles: &[Ranks]) -> Result<(), Allo
 }
 
 fn push_source(out: &mut Bytes, source: &Source) -> Result<(), AllocError>
-    ensures { OnOk result (out.new ≡ out.old ++ source_text source.now) }
+    ensures { OnOk result (out.new ≡ out.old ++ awaited_source_text source.now) }
 {
     match source {
         Source::Any => push_text(out, b"any rank"),
@@ -343,7 +343,7 @@ fn push_source(out: &mut Bytes, source: &Source) -> Result<(), AllocError>
 }
 
 fn push_tag(out: &mut Bytes, tag: &Tag) -> Result<(), AllocError>
-    ensures { OnOk result (out.new ≡ out.old ++ tag_text tag.now) }
+    ensures { OnOk result (out.new ≡ out.old ++ awaited_tag_text tag.now) }
 {
     match tag {
         Tag::Any => push_text(out, b"any tag"),
@@ -355,7 +355,7 @@ fn push_tag(out: &mut Bytes, tag: &Tag) -> Result<(), AllocError>
 }
 
 fn push_message(out: &mut Bytes, source: &Source, tag: &Tag) -> Result<(), AllocError>
-    ensures { OnOk result (out.new ≡ out.old ++ message_text source.now tag.now) }
+    ensures { OnOk result (out.new ≡ out.old ++ awaited_message_text source.now tag.now) }
 {
     push_text(out, b"waits for ")?;
     push_source(out, source)?;
@@ -365,7 +365,7 @@ fn push_message(out: &mut Bytes, source: &Source, tag: &Tag) -> Result<(), Alloc
 
 /// What a rank waits for.
 fn push_wait(out: &mut Bytes, call: &Call, awaited: &[u8]) -> Result<(), AllocError>
-    ensures { OnOk result (out.new ≡ out.old ++ wait_text call.now awaited.now) }
+    ensures { OnOk result (out.new ≡ out.old ++ drawn_wait_text call.now awaited.now) }
 {
     match call {
         Call::Send { dest, .. } => push_receiver(out, *dest),
@@ -393,7 +393,7 @@ fn push_entering(out: &mut Bytes, awaited: &[u8]) -> Result<(), AllocError>
 }
 
 fn push_ended(out: &mut Bytes, is_there: bool) -> Result<(), AllocError>
-    ensures { OnOk result (out.new ≡ out.old ++ ended_text is_there) }
+    ensures { OnOk result (out.new ≡ out.old ++ has_ended_text is_there) }
 {
     if is_there {
         return Ok(());
@@ -403,7 +403,7 @@ fn push_ended(out: &mut Bytes, is_there: bool) -> Result<(), AllocError>
 
 /// The first thing that a rank waits for.
 fn push_waiting(out: &mut Bytes, all: &[Blocked], waits: &[Wait]) -> Result<(), AllocError>
-    ensures { OnOk result (out.new ≡ out.old ++ waiting_text all.now waits.now) }
+    ensures { OnOk result (out.new ≡ out.old ++ drawn_waiting_text all.now waits.now) }
 {
     match waits {
         [] => Ok(()),
@@ -461,7 +461,7 @@ fn push_bytes(out: &mut Bytes, bytes: &[u8]) -> Result<(), AllocError>
 
 /// The end of what a rank printed.
 fn push_output(out: &mut Bytes, output: &[u8]) -> Result<(), AllocError>
-    ensures { OnOk result (out.new ≡ out.old ++ output_text output.now) }
+    ensures { OnOk result (out.new ≡ out.old ++ drawn_output_text output.now) }
 {
     push_dots(out, output.len())?;
     push_bytes(out, &output[output.len().saturating_sub(SHOWN)..])
@@ -536,13 +536,13 @@ fn push_ending(
     rank: u8,
     text: &[u8],
 ) -> Result<(), AllocError>
-    ensures { OnOk result (out.new ≡ out.old ++ ending_text grid.now all.now x rank text.now) }
+    ensures { OnOk result (out.new ≡ out.old ++ drawn_ending_text grid.now all.now x rank text.now) }
 {
     push_style(out, is_blocked(all, rank))?;
     push_filled(
         out,
         b" x=\"%\" y=\"%\">",
-        &[Part::Number(x), Part::Number(grid.y(rank) + 4)],
+        &[Filler::Number(x), Filler::Number(grid.y(rank) + 4)],
     )?;
     push_text(out, text)?;
     push_text(out, b"</text>\n")
@@ -556,7 +556,7 @@ fn push_ending_at(
     texts: &[Bytes],
     rank: u8,
 ) -> Result<(), AllocError>
-    ensures { OnOk result (out.new ≡ out.old ++ ending_text grid.now all.now x rank (slice_index_or texts.now rank [])) }
+    ensures { OnOk result (out.new ≡ out.old ++ drawn_ending_text grid.now all.now x rank (slice_index_or texts.now rank [])) }
 {
     push_ending(out, grid, all, x, rank, output_at(texts, rank))
 }

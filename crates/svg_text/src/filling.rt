@@ -1,6 +1,6 @@
 //! Texts with holes.
 ghost use Rattle.std.specs.Prelude.{◌≡◌, ◌++◌, OnOk, drop};
-ghost use Rattle.svg_text.specs.Filling.{deep_text, filled, hole_text, pale_text, part_text};
+ghost use Rattle.svg_text.specs.Filling.{deep_text, filled_text, hole_text, pale_text, filled_hole_text};
 
 use std::alloc::AllocError;
 use wiz_base::{Bytes, push_decimal, push_text};
@@ -10,7 +10,7 @@ const COLOURS: u8 = 8;
 
 /// What fills a hole.
 #[derive(Clone, Copy)]
-pub enum Part {
+pub enum Filler {
     Number(u64),
     /// The colour of a group.
     Deep(u8),
@@ -24,9 +24,9 @@ pub enum Part {
 }
 
 /// A text in which each % is a hole, filled in order.
-#[tactic(auto, unfolding(crate::specs::Filling::filled))]
-pub fn push_filled(out: &mut Bytes, text: &[u8], parts: &[Part]) -> Result<(), AllocError>
-    ensures { OnOk result (out.new ≡ out.old ++ filled text.now parts.now) }
+#[tactic(auto, unfolding(crate::specs::Filling::filled_text))]
+pub fn push_filled(out: &mut Bytes, text: &[u8], parts: &[Filler]) -> Result<(), AllocError>
+    ensures { OnOk result (out.new ≡ out.old ++ filled_text text.now parts.now) }
 {
     let mut left = parts;
     let mut rest = text;
@@ -43,7 +43,7 @@ pub fn push_filled(out: &mut Bytes, text: &[u8], parts: &[Part]) -> Result<(), A
 }
 
 /// What fills the first hole.
-fn push_hole(out: &mut Bytes, parts: &[Part]) -> Result<(), AllocError>
+fn push_hole(out: &mut Bytes, parts: &[Filler]) -> Result<(), AllocError>
     ensures { OnOk result (out.new ≡ out.old ++ hole_text parts.now) }
 {
     match parts {
@@ -53,7 +53,7 @@ fn push_hole(out: &mut Bytes, parts: &[Part]) -> Result<(), AllocError>
 }
 
 /// What fills the others.
-fn behind<'a>(parts: &'a [Part]) -> &'a [Part]
+fn behind<'a>(parts: &'a [Filler]) -> &'a [Filler]
     ensures { result.now ≡ drop 1 parts.entry.now }
 {
     match parts {
@@ -62,16 +62,16 @@ fn behind<'a>(parts: &'a [Part]) -> &'a [Part]
     }
 }
 
-fn push_part(out: &mut Bytes, part: Part) -> Result<(), AllocError>
-    ensures { OnOk result (out.new ≡ out.old ++ part_text part) }
+fn push_part(out: &mut Bytes, part: Filler) -> Result<(), AllocError>
+    ensures { OnOk result (out.new ≡ out.old ++ filled_hole_text part) }
 {
     match part {
-        Part::Number(number) => push_decimal(out, number),
-        Part::Deep(group) => push_deep(out, group % COLOURS),
-        Part::Pale(group) => push_pale(out, group % COLOURS),
-        Part::Wild => push_text(out, b"#b8007a"),
-        Part::Bad => push_text(out, b"#d21f1f"),
-        Part::Gray => push_text(out, b"#8a8f98"),
+        Filler::Number(number) => push_decimal(out, number),
+        Filler::Deep(group) => push_deep(out, group % COLOURS),
+        Filler::Pale(group) => push_pale(out, group % COLOURS),
+        Filler::Wild => push_text(out, b"#b8007a"),
+        Filler::Bad => push_text(out, b"#d21f1f"),
+        Filler::Gray => push_text(out, b"#8a8f98"),
     }
 }
 

@@ -4,15 +4,15 @@ ghost use Rattle.run_model.specs.Views.{view_of};
 ghost use Rattle.run_text.specs.CallTexts.{kind_text};
 ghost use Rattle.wiz_base.specs.Decimals.{decimal_text};
 ghost use Rattle.svg_text.specs.Grids.{x_of, y_of};
-ghost use Rattle.svg_text.specs.Marks.{any_text, below_text, call_shape, cross_text, diamond_text, done_text, end_text, enter_text, from_text, label_begin, label_text, mark_by, mark_in, mark_text, post_by, post_text, send_text, shape_text, source_of, sources_in, sources_of, take_text, title_text, wild_text};
+ghost use Rattle.svg_text.specs.Marks.{any_label_text, below_text, call_shape, cross_text, diamond_text, done_text, end_text, enter_text, sources_label_text, label_begin, label_text, titled_mark_text, seen_mark_text, drawn_mark_text, post_by, post_text, drawn_send_text, shape_text, message_sources, sources_in, sources_of, spot_of, take_text, title_text, wild_text};
 
-use crate::filling::{Part, push_filled};
+use crate::filling::{Filler, push_filled};
 use crate::grid::Grid;
 use crate::shapes::group_of;
 use mpi_call::call::{Call, Kind, Source};
 use mpi_call::lists::Ranks;
 use mpi_call::reply::{Got, Item, Reply};
-use run_drawing::drawing::Mark;
+use run_drawing::drawing::DrawnMark;
 use run_model::by_rank::ByRank;
 use run_text::call_text::{push_call, push_kind, push_list, push_reply};
 use std::alloc::{AllocError, Global};
@@ -25,9 +25,9 @@ pub fn push_mark(
     grid: &Grid,
     groups: &[u8],
     by_rank: &ByRank<'_>,
-    mark: &Mark,
+    mark: &DrawnMark,
 ) -> Result<(), AllocError>
-    ensures { OnOk result (out.new ≡ out.old ++ mark_text grid.now groups.now (view_of by_rank.now) mark.now) }
+    ensures { OnOk result (out.new ≡ out.old ++ drawn_mark_text grid.now groups.now (view_of by_rank.now) mark.now) }
 {
     match by_rank.get(mark.rank).get(mark.number as usize) {
         Some(event) => push_mark_of(alloc, out, grid, groups, mark, &event.call, &event.reply),
@@ -40,11 +40,11 @@ fn push_mark_of(
     out: &mut Bytes,
     grid: &Grid,
     groups: &[u8],
-    mark: &Mark,
+    mark: &DrawnMark,
     call: &Call,
     reply: &Reply,
 ) -> Result<(), AllocError>
-    ensures { OnOk result (out.new ≡ out.old ++ mark_by grid.now groups.now mark.now call.now reply.now) }
+    ensures { OnOk result (out.new ≡ out.old ++ titled_mark_text grid.now groups.now mark.now call.now reply.now) }
 {
     let x = grid.x(mark.column);
     let y = grid.y(mark.rank);
@@ -57,7 +57,12 @@ fn push_mark_of(
 }
 
 /// The line of the trace.
-fn push_title(out: &mut Bytes, mark: &Mark, call: &Call, reply: &Reply) -> Result<(), AllocError>
+fn push_title(
+    out: &mut Bytes,
+    mark: &DrawnMark,
+    call: &Call,
+    reply: &Reply,
+) -> Result<(), AllocError>
     ensures { OnOk result (out.new ≡ out.old ++ title_text mark.now call.now reply.now) }
 {
     push_text(out, b"<g><title>rank ")?;
@@ -88,7 +93,7 @@ fn push_shape(
     requires y { 60 ≤ y }
     requires right { x < 2 ^ 40 }
     requires low { y < 2 ^ 40 }
-    ensures { OnOk result (out.new ≡ out.old ++ shape_text grid.now x y group is_wild call.now reply.now) }
+    ensures { OnOk result (out.new ≡ out.old ++ shape_text (spot_of grid.now x y group) is_wild call.now reply.now) }
 {
     match reply {
         Reply::Stopped(_) => push_cross(out, x, y),
@@ -111,7 +116,7 @@ fn push_call_shape(
     requires y { 60 ≤ y }
     requires right { x < 2 ^ 40 }
     requires low { y < 2 ^ 40 }
-    ensures { OnOk result (out.new ≡ out.old ++ call_shape grid.now x y group is_wild call.now reply.now) }
+    ensures { OnOk result (out.new ≡ out.old ++ call_shape (spot_of grid.now x y group) is_wild call.now reply.now) }
 {
     match call {
         Call::Send { tag, .. } => push_send(out, grid, x, y, group, *tag),
@@ -134,14 +139,14 @@ fn push_cross(out: &mut Bytes, x: u64, y: u64) -> Result<(), AllocError>
         out,
         b"<path d=\"M% %L% %M% %L% %\" stroke=\"#d21f1f\" stroke-width=\"3\"/>\n",
         &[
-            Part::Number(x - 6),
-            Part::Number(y - 6),
-            Part::Number(x + 6),
-            Part::Number(y + 6),
-            Part::Number(x - 6),
-            Part::Number(y + 6),
-            Part::Number(x + 6),
-            Part::Number(y - 6),
+            Filler::Number(x - 6),
+            Filler::Number(y - 6),
+            Filler::Number(x + 6),
+            Filler::Number(y + 6),
+            Filler::Number(x - 6),
+            Filler::Number(y + 6),
+            Filler::Number(x + 6),
+            Filler::Number(y - 6),
         ],
     )
 }
@@ -192,7 +197,7 @@ fn push_label_begin(out: &mut Bytes, x: u64, y: u64) -> Result<(), AllocError>
     push_filled(
         out,
         b"<text class=\"n\" x=\"%\" y=\"%\" text-anchor=\"middle\">",
-        &[Part::Number(x), Part::Number(y - 12)],
+        &[Filler::Number(x), Filler::Number(y - 12)],
     )
 }
 
@@ -206,9 +211,9 @@ fn push_below(out: &mut Bytes, grid: &Grid, x: u64, y: u64, number: u32) -> Resu
             out,
             b"<text class=\"n\" x=\"%\" y=\"%\" text-anchor=\"middle\">%</text>\n",
             &[
-                Part::Number(x),
-                Part::Number(y + 20),
-                Part::Number(number as u64),
+                Filler::Number(x),
+                Filler::Number(y + 20),
+                Filler::Number(number as u64),
             ],
         ),
         Grid::Dense => Ok(()),
@@ -224,12 +229,12 @@ fn push_send(
     tag: u32,
 ) -> Result<(), AllocError>
     requires y { 60 ≤ y }
-    ensures { OnOk result (out.new ≡ out.old ++ send_text grid.now x y group tag) }
+    ensures { OnOk result (out.new ≡ out.old ++ drawn_send_text grid.now x y group tag) }
 {
     push_filled(
         out,
         b"<circle cx=\"%\" cy=\"%\" r=\"5\" fill=\"%\"/>\n",
-        &[Part::Number(x), Part::Number(y), Part::Deep(group)],
+        &[Filler::Number(x), Filler::Number(y), Filler::Deep(group)],
     )?;
     push_tag(out, grid, x, y, tag)?;
     Ok(())
@@ -249,33 +254,33 @@ fn push_post(
 {
     match source {
         Source::Any => {
-            push_ring(out, x, y, Part::Wild)?;
+            push_ring(out, x, y, Filler::Wild)?;
             push_any(out, grid, x, y)
         }
-        _ => push_ring(out, x, y, Part::Deep(group)),
+        _ => push_ring(out, x, y, Filler::Deep(group)),
     }
 }
 
-fn push_ring(out: &mut Bytes, x: u64, y: u64, colour: Part) -> Result<(), AllocError>
+fn push_ring(out: &mut Bytes, x: u64, y: u64, colour: Filler) -> Result<(), AllocError>
     ensures { OnOk result (out.new ≡ out.old ++ post_by x y colour) }
 {
     push_filled(
         out,
         b"<circle cx=\"%\" cy=\"%\" r=\"4\" fill=\"#ffffff\" stroke=\"%\" stroke-width=\"2\"/>\n",
-        &[Part::Number(x), Part::Number(y), colour],
+        &[Filler::Number(x), Filler::Number(y), colour],
     )
 }
 
 fn push_any(out: &mut Bytes, grid: &Grid, x: u64, y: u64) -> Result<(), AllocError>
     requires x { 92 ≤ x }
     requires y { 60 ≤ y }
-    ensures { OnOk result (out.new ≡ out.old ++ any_text grid.now x y) }
+    ensures { OnOk result (out.new ≡ out.old ++ any_label_text grid.now x y) }
 {
     match grid {
         Grid::Wide => push_filled(
             out,
             b"<text class=\"w\" x=\"%\" y=\"%\">any</text>\n",
-            &[Part::Number(x - 10), Part::Number(y - 10)],
+            &[Filler::Number(x - 10), Filler::Number(y - 10)],
         ),
         Grid::Dense => Ok(()),
     }
@@ -296,7 +301,11 @@ fn push_enter(
     push_filled(
         out,
         b"<rect x=\"%\" y=\"%\" width=\"10\" height=\"10\" fill=\"%\"/>\n",
-        &[Part::Number(x - 5), Part::Number(y - 5), Part::Deep(group)],
+        &[
+            Filler::Number(x - 5),
+            Filler::Number(y - 5),
+            Filler::Deep(group),
+        ],
     )?;
     push_kind_label(out, grid, x, y, kind)?;
     Ok(())
@@ -323,7 +332,7 @@ fn push_take(
         Reply::NotYet => push_filled(
             out,
             b"<circle cx=\"%\" cy=\"%\" r=\"3\" fill=\"#ffffff\" stroke=\"#8a8f98\"/>\n",
-            &[Part::Number(x), Part::Number(y)],
+            &[Filler::Number(x), Filler::Number(y)],
         ),
         _ => push_done(alloc, out, grid, x, y, group, is_wild, reply),
     }
@@ -346,13 +355,13 @@ fn push_done(
     ensures { OnOk result (out.new ≡ out.old ++ done_text grid.now x y group is_wild reply.now) }
 {
     if !is_wild {
-        return push_diamond(out, x, y, Part::Deep(group));
+        return push_diamond(out, x, y, Filler::Deep(group));
     }
-    push_diamond(out, x, y, Part::Wild)?;
+    push_diamond(out, x, y, Filler::Wild)?;
     push_from(alloc, out, grid, x, y, reply)
 }
 
-fn push_diamond(out: &mut Bytes, x: u64, y: u64, colour: Part) -> Result<(), AllocError>
+fn push_diamond(out: &mut Bytes, x: u64, y: u64, colour: Filler) -> Result<(), AllocError>
     requires x { 92 ≤ x }
     requires y { 60 ≤ y }
     requires right { x < 2 ^ 40 }
@@ -363,14 +372,14 @@ fn push_diamond(out: &mut Bytes, x: u64, y: u64, colour: Part) -> Result<(), All
         out,
         b"<path d=\"M% %L% %L% %L% %z\" fill=\"%\"/>\n",
         &[
-            Part::Number(x - 7),
-            Part::Number(y),
-            Part::Number(x),
-            Part::Number(y - 7),
-            Part::Number(x + 7),
-            Part::Number(y),
-            Part::Number(x),
-            Part::Number(y + 7),
+            Filler::Number(x - 7),
+            Filler::Number(y),
+            Filler::Number(x),
+            Filler::Number(y - 7),
+            Filler::Number(x + 7),
+            Filler::Number(y),
+            Filler::Number(x),
+            Filler::Number(y + 7),
             colour,
         ],
     )
@@ -387,7 +396,7 @@ fn push_from(
 ) -> Result<(), AllocError>
     requires x { 92 ≤ x }
     requires y { 60 ≤ y }
-    ensures { OnOk result (out.new ≡ out.old ++ from_text grid.now x y reply.now) }
+    ensures { OnOk result (out.new ≡ out.old ++ sources_label_text grid.now x y reply.now) }
 {
     match grid {
         Grid::Wide => {
@@ -395,7 +404,7 @@ fn push_from(
             push_filled(
                 out,
                 b"<text class=\"w\" x=\"%\" y=\"%\">from ",
-                &[Part::Number(x - 16), Part::Number(y - 12)],
+                &[Filler::Number(x - 16), Filler::Number(y - 12)],
             )?;
             push_list(out, sources.as_slice())?;
             push_text(out, b"</text>\n")?;
@@ -427,7 +436,7 @@ fn sources_in(alloc: Global, items: &[Item]) -> Result<Ranks, AllocError>
 }
 
 fn push_source(sources: &mut Ranks, got: &Got) -> Result<(), AllocError>
-    ensures { OnOk result (sources.new ≡ sources.old ++ source_of got.now) }
+    ensures { OnOk result (sources.new ≡ sources.old ++ message_sources got.now) }
 {
     if let Got::Message { source, .. } = got {
         sources.push(*source)?;
@@ -443,6 +452,10 @@ fn push_end(out: &mut Bytes, x: u64, y: u64, group: u8) -> Result<(), AllocError
     push_filled(
         out,
         b"<rect x=\"%\" y=\"%\" width=\"4\" height=\"18\" fill=\"%\"/>\n",
-        &[Part::Number(x - 2), Part::Number(y - 9), Part::Deep(group)],
+        &[
+            Filler::Number(x - 2),
+            Filler::Number(y - 9),
+            Filler::Deep(group),
+        ],
     )
 }

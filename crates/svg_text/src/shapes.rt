@@ -2,11 +2,11 @@
 ghost use Rattle.std.specs.Prelude.{◌≡◌, ◌-◌, ◌≤◌, ◌<◌, ◌^◌, ◌++◌, OnOk, Some, flat_map, nat_lt, slice_index};
 ghost use Rattle.svg_text.specs.declared.grid.Grid.TheVariants.{Dense, Wide};
 ghost use Rattle.svg_text.specs.Grids.{x_of, y_of};
-ghost use Rattle.svg_text.specs.Shapes.{arrow_text, bar_text, between_text, choice_text, choices_by, choices_text, collective_text, dense_lane, ends_text, gray_text, lane_text, latest_text, message_by, message_text, probe_text, receive_colour, receive_text, stub_down, stub_text, taken_colour, unreceived_text, wide_lane, wild_arrow};
+ghost use Rattle.svg_text.specs.Shapes.{arrow_text, bar_text, line_ends_text, choice_text, message_choices_text, choices_text, collective_text, dense_lane, ends_text, gray_text, lane_text, latest_text, message_arrow_text, received_message_text, drawn_probe_text, receive_colour, drawn_receive_text, stub_down, stub_text, taken_colour, unreceived_text, wide_lane, wild_arrow};
 
-use crate::filling::{Part, push_filled};
+use crate::filling::{Filler, push_filled};
 use crate::grid::{Grid, long_side, short_of};
-use run_drawing::drawing::{Arrow, Collective, Message, Point, Receive, Unreceived};
+use run_drawing::drawing::{Arrow, DrawnCollective, DrawnMessage, DrawnReceive, Point, Unreceived};
 use std::alloc::AllocError;
 use wiz_base::{Bytes, push_text};
 
@@ -46,17 +46,17 @@ fn push_wide_lane(out: &mut Bytes, right: u64, groups: &[u8], rank: u8) -> Resul
         out,
         b"<rect x=\"8\" y=\"%\" width=\"%\" height=\"56\" fill=\"%\"/>\n<text class=\"t\" x=\"16\" y=\"%\" style=\"font-weight:bold;fill:%\">rank %</text>\n<text class=\"s\" x=\"16\" y=\"%\">group %</text>\n<line class=\"l\" x1=\"92\" y1=\"%\" x2=\"%\" y2=\"%\"/>\n",
         &[
-            Part::Number(y - 28),
-            Part::Number(right - 8),
-            Part::Pale(group),
-            Part::Number(y),
-            Part::Deep(group),
-            Part::Number(rank as u64),
-            Part::Number(y + 14),
-            Part::Number(group as u64),
-            Part::Number(y),
-            Part::Number(right),
-            Part::Number(y),
+            Filler::Number(y - 28),
+            Filler::Number(right - 8),
+            Filler::Pale(group),
+            Filler::Number(y),
+            Filler::Deep(group),
+            Filler::Number(rank as u64),
+            Filler::Number(y + 14),
+            Filler::Number(group as u64),
+            Filler::Number(y),
+            Filler::Number(right),
+            Filler::Number(y),
         ],
     )?;
     Ok(())
@@ -73,15 +73,15 @@ fn push_dense_lane(out: &mut Bytes, right: u64, groups: &[u8], rank: u8) -> Resu
         out,
         b"<rect x=\"8\" y=\"%\" width=\"%\" height=\"20\" fill=\"%\"/>\n<text class=\"t\" x=\"16\" y=\"%\" style=\"font-weight:bold;fill:%\">rank %</text>\n<line class=\"l\" x1=\"92\" y1=\"%\" x2=\"%\" y2=\"%\"/>\n",
         &[
-            Part::Number(y - 10),
-            Part::Number(right - 8),
-            Part::Pale(group),
-            Part::Number(y + 4),
-            Part::Deep(group),
-            Part::Number(rank as u64),
-            Part::Number(y),
-            Part::Number(right),
-            Part::Number(y),
+            Filler::Number(y - 10),
+            Filler::Number(right - 8),
+            Filler::Pale(group),
+            Filler::Number(y + 4),
+            Filler::Deep(group),
+            Filler::Number(rank as u64),
+            Filler::Number(y),
+            Filler::Number(right),
+            Filler::Number(y),
         ],
     )?;
     Ok(())
@@ -102,7 +102,7 @@ fn push_bar(
     rank: u8,
     from: u32,
     to: u32,
-    colour: Part,
+    colour: Filler,
 ) -> Result<(), AllocError>
     ensures { OnOk result (out.new ≡ out.old ++ bar_text grid.now rank from to colour) }
 {
@@ -113,9 +113,9 @@ fn push_bar(
         out,
         b"<rect x=\"%\" y=\"%\" width=\"%\" height=\"10\" rx=\"5\" fill=\"%\" fill-opacity=\"0.28\"/>\n",
         &[
-            Part::Number(x - 5),
-            Part::Number(y - 5),
-            Part::Number(length + 10),
+            Filler::Number(x - 5),
+            Filler::Number(y - 5),
+            Filler::Number(length + 10),
             colour,
         ],
     )?;
@@ -127,31 +127,31 @@ pub fn push_receive(
     out: &mut Bytes,
     grid: &Grid,
     groups: &[u8],
-    receive: &Receive,
+    receive: &DrawnReceive,
 ) -> Result<(), AllocError>
-    ensures { OnOk result (out.new ≡ out.old ++ receive_text grid.now groups.now receive.now) }
+    ensures { OnOk result (out.new ≡ out.old ++ drawn_receive_text grid.now groups.now receive.now) }
 {
     let colour = receive_colour(groups, receive.rank, receive.is_wild, &receive.message);
     push_bar(out, grid, receive.rank, receive.from, receive.to, colour)?;
     Ok(())
 }
 
-fn receive_colour(groups: &[u8], rank: u8, is_wild: bool, message: &Option<Message>) -> Part
+fn receive_colour(groups: &[u8], rank: u8, is_wild: bool, message: &Option<DrawnMessage>) -> Filler
     ensures { result ≡ receive_colour groups.now rank is_wild message.now }
 {
     match message {
-        None => Part::Bad,
+        None => Filler::Bad,
         Some(_) => taken_colour(groups, rank, is_wild),
     }
 }
 
-fn taken_colour(groups: &[u8], rank: u8, is_wild: bool) -> Part
+fn taken_colour(groups: &[u8], rank: u8, is_wild: bool) -> Filler
     ensures { result ≡ taken_colour groups.now rank is_wild }
 {
     if is_wild {
-        return Part::Wild;
+        return Filler::Wild;
     }
-    Part::Deep(group_of(groups, rank))
+    Filler::Deep(group_of(groups, rank))
 }
 
 /// The ends of a line, the second short of its mark.
@@ -169,10 +169,10 @@ fn push_ends(out: &mut Bytes, x1: u64, y1: u64, x2: u64, y2: u64) -> Result<(), 
         out,
         b" x1=\"%\" y1=\"%\" x2=\"%\" y2=\"%\"",
         &[
-            Part::Number(x1),
-            Part::Number(y1),
-            Part::Number(x),
-            Part::Number(y),
+            Filler::Number(x1),
+            Filler::Number(y1),
+            Filler::Number(x),
+            Filler::Number(y),
         ],
     )
 }
@@ -185,7 +185,7 @@ fn push_between(
     rank: u8,
     column: u32,
 ) -> Result<(), AllocError>
-    ensures { OnOk result (out.new ≡ out.old ++ between_text grid.now from rank column) }
+    ensures { OnOk result (out.new ≡ out.old ++ line_ends_text grid.now from rank column) }
 {
     push_ends(
         out,
@@ -240,10 +240,10 @@ fn push_thin(out: &mut Bytes, from: Point, rank: u8, column: u32) -> Result<(), 
         out,
         b"<line class=\"d\" stroke=\"#9aa0aa\" x1=\"%\" y1=\"%\" x2=\"%\" y2=\"%\"/>\n",
         &[
-            Part::Number(grid.x(from.column)),
-            Part::Number(grid.y(from.rank)),
-            Part::Number(grid.x(column)),
-            Part::Number(grid.y(rank)),
+            Filler::Number(grid.x(from.column)),
+            Filler::Number(grid.y(from.rank)),
+            Filler::Number(grid.x(column)),
+            Filler::Number(grid.y(rank)),
         ],
     )
 }
@@ -252,7 +252,7 @@ fn push_thin(out: &mut Bytes, from: Point, rank: u8, column: u32) -> Result<(), 
 pub fn push_collective(
     out: &mut Bytes,
     grid: &Grid,
-    collective: &Collective,
+    collective: &DrawnCollective,
 ) -> Result<(), AllocError>
     ensures { OnOk result (out.new ≡ out.old ++ collective_text grid.now collective.now) }
 {
@@ -262,7 +262,7 @@ pub fn push_collective(
         collective.rank,
         collective.from,
         collective.to,
-        Part::Gray,
+        Filler::Gray,
     )?;
     push_latest(out, grid, collective.latest, collective.rank, collective.to)
 }
@@ -300,7 +300,7 @@ fn push_each_choice(
 }
 
 /// What a receive could have taken instead; nothing in a dense grid.
-pub fn push_choices(out: &mut Bytes, grid: &Grid, receive: &Receive) -> Result<(), AllocError>
+pub fn push_choices(out: &mut Bytes, grid: &Grid, receive: &DrawnReceive) -> Result<(), AllocError>
     ensures { OnOk result (out.new ≡ out.old ++ choices_text grid.now receive.now) }
 {
     let Some(message) = &receive.message else {
@@ -317,9 +317,9 @@ pub fn push_message(
     out: &mut Bytes,
     grid: &Grid,
     groups: &[u8],
-    receive: &Receive,
+    receive: &DrawnReceive,
 ) -> Result<(), AllocError>
-    ensures { OnOk result (out.new ≡ out.old ++ message_text grid.now groups.now receive.now) }
+    ensures { OnOk result (out.new ≡ out.old ++ received_message_text grid.now groups.now receive.now) }
 {
     match &receive.message {
         Some(message) => push_arrow(
@@ -350,12 +350,16 @@ fn push_arrow(
         return push_wild_arrow(out, grid, sender, rank, column);
     }
     let group = group_of(groups, sender.rank);
-    push_filled(out, b"<line class=\"m\" stroke=\"%\"", &[Part::Deep(group)])?;
+    push_filled(
+        out,
+        b"<line class=\"m\" stroke=\"%\"",
+        &[Filler::Deep(group)],
+    )?;
     push_between(out, grid, sender, rank, column)?;
     push_filled(
         out,
         b" marker-end=\"url(#a%)\"/>\n",
-        &[Part::Number((group % 8) as u64)],
+        &[Filler::Number((group % 8) as u64)],
     )?;
     Ok(())
 }
@@ -378,7 +382,7 @@ fn push_wild_arrow(
 
 /// A message that a probe found.
 pub fn push_probe(out: &mut Bytes, grid: &Grid, probe: &Arrow) -> Result<(), AllocError>
-    ensures { OnOk result (out.new ≡ out.old ++ probe_text grid.now probe.now) }
+    ensures { OnOk result (out.new ≡ out.old ++ drawn_probe_text grid.now probe.now) }
 {
     push_gray(out, grid, probe.from, probe.to.rank, probe.to.column)
 }
@@ -417,15 +421,15 @@ fn push_stub(out: &mut Bytes, rank: u8, receiver: u8, x: u64, y: u64) -> Result<
         out,
         b"<line class=\"o\" stroke=\"#8a8f98\" x1=\"%\" y1=\"%\" x2=\"%\" y2=\"%\"/>\n<circle cx=\"%\" cy=\"%\" r=\"3\" fill=\"#ffffff\" stroke=\"#8a8f98\"/>\n<text class=\"n\" x=\"%\" y=\"%\" text-anchor=\"end\">to %</text>\n",
         &[
-            Part::Number(x),
-            Part::Number(y),
-            Part::Number(x - 16),
-            Part::Number(y - 24),
-            Part::Number(x - 16),
-            Part::Number(y - 24),
-            Part::Number(x - 22),
-            Part::Number(y - 20),
-            Part::Number(receiver as u64),
+            Filler::Number(x),
+            Filler::Number(y),
+            Filler::Number(x - 16),
+            Filler::Number(y - 24),
+            Filler::Number(x - 16),
+            Filler::Number(y - 24),
+            Filler::Number(x - 22),
+            Filler::Number(y - 20),
+            Filler::Number(receiver as u64),
         ],
     )
 }
@@ -439,15 +443,15 @@ fn push_stub_down(out: &mut Bytes, x: u64, y: u64, receiver: u8) -> Result<(), A
         out,
         b"<line class=\"o\" stroke=\"#8a8f98\" x1=\"%\" y1=\"%\" x2=\"%\" y2=\"%\"/>\n<circle cx=\"%\" cy=\"%\" r=\"3\" fill=\"#ffffff\" stroke=\"#8a8f98\"/>\n<text class=\"n\" x=\"%\" y=\"%\" text-anchor=\"start\">to %</text>\n",
         &[
-            Part::Number(x),
-            Part::Number(y),
-            Part::Number(x + 18),
-            Part::Number(y + 24),
-            Part::Number(x + 18),
-            Part::Number(y + 24),
-            Part::Number(x + 24),
-            Part::Number(y + 28),
-            Part::Number(receiver as u64),
+            Filler::Number(x),
+            Filler::Number(y),
+            Filler::Number(x + 18),
+            Filler::Number(y + 24),
+            Filler::Number(x + 18),
+            Filler::Number(y + 24),
+            Filler::Number(x + 24),
+            Filler::Number(y + 28),
+            Filler::Number(receiver as u64),
         ],
     )
 }

@@ -3,15 +3,15 @@ ghost use Rattle.std.specs.Prelude.{◌≡◌, ◌+◌, ◌-◌, ◌≤◌, ◌<
 ghost use Rattle.run_model.specs.Views.{view_of};
 ghost use Rattle.svg_text.specs.Endings.{arc_text, arcs_of, beside, beside_texts, blocked_of, cycles_of, cycles_text, endings_text, farthest, longest};
 ghost use Rattle.svg_text.specs.Grids.{bottom_of, grid_by, right_of};
-ghost use Rattle.svg_text.specs.Marks.{mark_text};
-ghost use Rattle.svg_text.specs.Shapes.{choices_text, collective_text, lane_text, message_text, probe_text, receive_text, unreceived_text};
-ghost use Rattle.svg_text.specs.SvgTexts.{choices_legend, count_raced, count_wild, end_text, frame_text, ground_text, groups_in, had_choice, head_text, heading_text, heads_text, high_of, lanes_text, legend_text, picture_text, plural_text, shapes_text, sides_text, some_choice, style_text, subtitle_text, svg_text, took_any, top_text, wide_of};
+ghost use Rattle.svg_text.specs.Marks.{drawn_mark_text};
+ghost use Rattle.svg_text.specs.Shapes.{choices_text, collective_text, lane_text, received_message_text, drawn_probe_text, drawn_receive_text, unreceived_text};
+ghost use Rattle.svg_text.specs.SvgTexts.{choices_legend, count_raced, count_wild, end_text, frame_text, ground_text, groups_in, had_choice, arrow_head_text, heading_text, heads_text, high_of, lanes_text, legend_text, picture_text, plural_text, remarks_of, shapes_text, sheet_of, sides_text, some_choice, style_text, subtitle_text, svg_text, took_any, top_text, wide_of};
 
 use crate::endings::{
     Arc, arcs_of, beside, beside_texts, blocked_of, cycles_of, farthest, longest, push_arc,
     push_cycles, push_endings,
 };
-use crate::filling::{Part, push_filled};
+use crate::filling::{Filler, push_filled};
 use crate::grid::Grid;
 use crate::marks::push_mark;
 use crate::shapes::{
@@ -19,7 +19,9 @@ use crate::shapes::{
     push_unreceived,
 };
 use mpi_call::lists::Ranks;
-use run_drawing::drawing::{Arrow, Collective, Drawing, Mark, Message, Point, Receive, Unreceived};
+use run_drawing::drawing::{
+    Arrow, Drawing, DrawnCollective, DrawnMark, DrawnMessage, DrawnReceive, Point, Unreceived,
+};
 use run_model::by_rank::ByRank;
 use run_model::ending::Ending;
 use run_model::history::History;
@@ -82,7 +84,7 @@ fn push_picture(
     requires high { 64 ≤ high }
     requires low { high < 2 ^ 42 }
     requires few { length cycles.now ≤ 64 }
-    ensures { OnOk result (out.new ≡ out.old ++ picture_text grid.now right high history.now.events drawing.now ending.now all.now cycles.now texts.now) }
+    ensures { OnOk result (out.new ≡ out.old ++ picture_text (sheet_of grid.now right high) history.now.events drawing.now ending.now (remarks_of all.now cycles.now texts.now)) }
 {
     let arcs = arcs_of(alloc, all)?;
     let x = beside(right, farthest(arcs.as_slice()));
@@ -156,10 +158,10 @@ fn push_frame(out: &mut Bytes, wide: u64, high: u64) -> Result<(), AllocError>
         out,
         b"<svg xmlns=\"http://www.w3.org/2000/svg\" width=\"%\" height=\"%\" viewBox=\"0 0 % %\">\n",
         &[
-            Part::Number(wide),
-            Part::Number(high),
-            Part::Number(wide),
-            Part::Number(high),
+            Filler::Number(wide),
+            Filler::Number(high),
+            Filler::Number(wide),
+            Filler::Number(high),
         ],
     )
 }
@@ -192,7 +194,7 @@ fn push_style(out: &mut Bytes) -> Result<(), AllocError>
 
 /// The head of an arrow.
 fn push_head(out: &mut Bytes, name: &[u8], colour: &[u8]) -> Result<(), AllocError>
-    ensures { OnOk result (out.new ≡ out.old ++ head_text name.now colour.now) }
+    ensures { OnOk result (out.new ≡ out.old ++ arrow_head_text name.now colour.now) }
 {
     push_text(out, b"<marker id=\"")?;
     push_text(out, name)?;
@@ -230,7 +232,7 @@ fn push_ground(out: &mut Bytes, wide: u64, high: u64) -> Result<(), AllocError>
     push_filled(
         out,
         b"<rect width=\"%\" height=\"%\" fill=\"#ffffff\"/>\n",
-        &[Part::Number(wide), Part::Number(high)],
+        &[Filler::Number(wide), Filler::Number(high)],
     )
 }
 
@@ -292,7 +294,7 @@ fn push_heading(
 }
 
 /// How many of these receives from any source were completed.
-fn count_wild(receives: &[Receive]) -> u64
+fn count_wild(receives: &[DrawnReceive]) -> u64
     ensures { result ≡ count_wild receives.now }
 {
     let mut count = 0u64;
@@ -307,7 +309,7 @@ fn count_wild(receives: &[Receive]) -> u64
 }
 
 /// How many of them could have taken another message.
-fn count_raced(receives: &[Receive]) -> u64
+fn count_raced(receives: &[DrawnReceive]) -> u64
     ensures { result ≡ count_raced receives.now }
 {
     let mut count = 0u64;
@@ -321,7 +323,7 @@ fn count_raced(receives: &[Receive]) -> u64
     count
 }
 
-fn had_choice(message: &Option<Message>) -> bool
+fn had_choice(message: &Option<DrawnMessage>) -> bool
     ensures { had_choice message.now ≡ (if result then 1 else 0) }
 {
     match message {
@@ -330,7 +332,7 @@ fn had_choice(message: &Option<Message>) -> bool
     }
 }
 
-fn push_subtitle(out: &mut Bytes, receives: &[Receive]) -> Result<(), AllocError>
+fn push_subtitle(out: &mut Bytes, receives: &[DrawnReceive]) -> Result<(), AllocError>
     ensures { OnOk result (out.new ≡ out.old ++ subtitle_text receives.now) }
 {
     push_text(
@@ -391,9 +393,9 @@ fn push_receives(
     out: &mut Bytes,
     grid: &Grid,
     groups: &[u8],
-    receives: &[Receive],
+    receives: &[DrawnReceive],
 ) -> Result<(), AllocError>
-    ensures { OnOk result (out.new ≡ out.old ++ flat_map (receive_text grid.now groups.now) receives.now) }
+    ensures { OnOk result (out.new ≡ out.old ++ flat_map (drawn_receive_text grid.now groups.now) receives.now) }
 {
     let mut rest = receives;
     while let [receive, after @ ..] = rest {
@@ -406,7 +408,7 @@ fn push_receives(
 fn push_collectives(
     out: &mut Bytes,
     grid: &Grid,
-    collectives: &[Collective],
+    collectives: &[DrawnCollective],
 ) -> Result<(), AllocError>
     ensures { OnOk result (out.new ≡ out.old ++ flat_map (collective_text grid.now) collectives.now) }
 {
@@ -418,7 +420,11 @@ fn push_collectives(
     Ok(())
 }
 
-fn push_all_choices(out: &mut Bytes, grid: &Grid, receives: &[Receive]) -> Result<(), AllocError>
+fn push_all_choices(
+    out: &mut Bytes,
+    grid: &Grid,
+    receives: &[DrawnReceive],
+) -> Result<(), AllocError>
     ensures { OnOk result (out.new ≡ out.old ++ flat_map (choices_text grid.now) receives.now) }
 {
     let mut rest = receives;
@@ -433,9 +439,9 @@ fn push_messages(
     out: &mut Bytes,
     grid: &Grid,
     groups: &[u8],
-    receives: &[Receive],
+    receives: &[DrawnReceive],
 ) -> Result<(), AllocError>
-    ensures { OnOk result (out.new ≡ out.old ++ flat_map (message_text grid.now groups.now) receives.now) }
+    ensures { OnOk result (out.new ≡ out.old ++ flat_map (received_message_text grid.now groups.now) receives.now) }
 {
     let mut rest = receives;
     while let [receive, after @ ..] = rest {
@@ -446,7 +452,7 @@ fn push_messages(
 }
 
 fn push_probes(out: &mut Bytes, grid: &Grid, probes: &[Arrow]) -> Result<(), AllocError>
-    ensures { OnOk result (out.new ≡ out.old ++ flat_map (probe_text grid.now) probes.now) }
+    ensures { OnOk result (out.new ≡ out.old ++ flat_map (drawn_probe_text grid.now) probes.now) }
 {
     let mut rest = probes;
     while let [probe, after @ ..] = rest {
@@ -473,9 +479,9 @@ fn push_marks(
     grid: &Grid,
     groups: &[u8],
     by_rank: &ByRank<'_>,
-    marks: &[Mark],
+    marks: &[DrawnMark],
 ) -> Result<(), AllocError>
-    ensures { OnOk result (out.new ≡ out.old ++ flat_map (mark_text grid.now groups.now (view_of by_rank.now)) marks.now) }
+    ensures { OnOk result (out.new ≡ out.old ++ flat_map (drawn_mark_text grid.now groups.now (view_of by_rank.now)) marks.now) }
 {
     let mut rest = marks;
     while let [mark, after @ ..] = rest {
@@ -514,36 +520,36 @@ fn push_legend(out: &mut Bytes, y: u64) -> Result<(), AllocError>
     requires small { y < 2 ^ 42 }
     ensures { OnOk result (out.new ≡ out.old ++ legend_text y) }
 {
-    let below = Part::Number(y + 4);
+    let below = Filler::Number(y + 4);
     push_filled(
         out,
         b"<circle cx=\"22\" cy=\"%\" r=\"5\" fill=\"#555b66\"/>\n<text class=\"s\" x=\"36\" y=\"%\">send</text>\n",
-        &[Part::Number(y), below],
+        &[Filler::Number(y), below],
     )?;
     push_filled(
         out,
         b"<circle cx=\"84\" cy=\"%\" r=\"4\" fill=\"#ffffff\" stroke=\"#555b66\" stroke-width=\"2\"/>\n<text class=\"s\" x=\"98\" y=\"%\">receive posted</text>\n",
-        &[Part::Number(y), below],
+        &[Filler::Number(y), below],
     )?;
     push_filled(
         out,
         b"<path d=\"M202 %m-7 0l7 -7l7 7l-7 7z\" fill=\"#555b66\"/>\n<text class=\"s\" x=\"216\" y=\"%\">completed</text>\n",
-        &[Part::Number(y), below],
+        &[Filler::Number(y), below],
     )?;
     push_filled(
         out,
         b"<rect x=\"291\" y=\"%\" width=\"10\" height=\"10\" fill=\"#555b66\"/>\n<text class=\"s\" x=\"310\" y=\"%\">collective</text>\n",
-        &[Part::Number(y - 5), below],
+        &[Filler::Number(y - 5), below],
     )?;
     push_filled(
         out,
         b"<rect x=\"386\" y=\"%\" width=\"4\" height=\"18\" fill=\"#555b66\"/>\n<text class=\"s\" x=\"402\" y=\"%\">end</text>\n",
-        &[Part::Number(y - 9), below],
+        &[Filler::Number(y - 9), below],
     )?;
     push_filled(
         out,
         b"<circle cx=\"446\" cy=\"%\" r=\"5\" fill=\"#b8007a\"/>\n<text class=\"s\" x=\"460\" y=\"%\">from any source</text>\n",
-        &[Part::Number(y), below],
+        &[Filler::Number(y), below],
     )?;
     Ok(())
 }
@@ -556,7 +562,7 @@ fn push_choices_legend(out: &mut Bytes, grid: &Grid, y: u64) -> Result<(), Alloc
         Grid::Wide => push_filled(
             out,
             b"<path class=\"o\" stroke=\"#b8007a\" d=\"M574 %m-14 0h24\"/>\n<text class=\"s\" x=\"588\" y=\"%\">could have come here instead</text>\n",
-            &[Part::Number(y), Part::Number(y + 4)],
+            &[Filler::Number(y), Filler::Number(y + 4)],
         ),
         Grid::Dense => Ok(()),
     }

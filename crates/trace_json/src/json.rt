@@ -1,12 +1,12 @@
 //! The trace events of a run.
 ghost use Rattle.std.specs.Prelude.{◌≡◌, ◌+◌, ◌++◌, IfOk, OnOk, flat_map, slice_index};
-ghost use Rattle.msg_races.specs.Listing.{joined as for_ranks};
+ghost use Rattle.msg_races.specs.Listing.{lists_below as for_ranks};
 ghost use Rattle.run_model.specs.Views.{view_of};
-ghost use Rattle.trace_json.specs.JsonTexts.{args_text, flow_by, flow_name, flow_text, flows_text, group_text, groups_text, head_text, last_group, name_text, place_text, rank_text, span_by, span_text, trace_json, verb_text};
+ghost use Rattle.trace_json.specs.JsonTexts.{args_text, flow_by, flow_name, flow_text, flows_text, group_name_text, groups_text, trace_head_text, last_group, event_name_text, place_text, rank_name_text, span_by, span_text, trace_json, verb_text};
 
 use mpi_call::call::Call;
 use mpi_call::reply::Reply;
-use run_drawing::drawing::{Drawing, Mark, Message, Point, Receive};
+use run_drawing::drawing::{Drawing, DrawnMark, DrawnMessage, DrawnReceive, Point};
 use run_model::by_rank::ByRank;
 use run_model::history::History;
 use run_text::call_text::{push_call, push_reply};
@@ -55,7 +55,7 @@ fn push_groups(out: &mut Bytes, groups: &[u8]) -> Result<(), AllocError>
 
 /// The names of the groups after the first, up to a last one.
 fn push_later_groups(out: &mut Bytes, last: u8) -> Result<(), AllocError>
-    ensures { OnOk result (out.new ≡ out.old ++ for_ranks (λ before. group_text (before + 1)) last) }
+    ensures { OnOk result (out.new ≡ out.old ++ for_ranks (λ before. group_name_text (before + 1)) last) }
 {
     for before in 0..last {
         push_group(out, before + 1)?;
@@ -64,7 +64,7 @@ fn push_later_groups(out: &mut Bytes, last: u8) -> Result<(), AllocError>
 }
 
 fn push_group(out: &mut Bytes, group: u8) -> Result<(), AllocError>
-    ensures { OnOk result (out.new ≡ out.old ++ group_text group) }
+    ensures { OnOk result (out.new ≡ out.old ++ group_name_text group) }
 {
     push_text(out, b",\n{\"name\":\"process_name\",\"ph\":\"M\",\"pid\":")?;
     push_decimal(out, group as u64)?;
@@ -82,7 +82,7 @@ fn group_of(groups: &[u8], rank: u8) -> u8
 
 /// The names of the ranks below a number.
 fn push_ranks(out: &mut Bytes, groups: &[u8], ranks: u8) -> Result<(), AllocError>
-    ensures { OnOk result (out.new ≡ out.old ++ for_ranks (rank_text groups.now) ranks) }
+    ensures { OnOk result (out.new ≡ out.old ++ for_ranks (rank_name_text groups.now) ranks) }
 {
     for rank in 0..ranks {
         push_rank(out, groups, rank)?;
@@ -91,7 +91,7 @@ fn push_ranks(out: &mut Bytes, groups: &[u8], ranks: u8) -> Result<(), AllocErro
 }
 
 fn push_rank(out: &mut Bytes, groups: &[u8], rank: u8) -> Result<(), AllocError>
-    ensures { OnOk result (out.new ≡ out.old ++ rank_text groups.now rank) }
+    ensures { OnOk result (out.new ≡ out.old ++ rank_name_text groups.now rank) }
 {
     push_text(out, b",\n{\"name\":\"thread_name\",\"ph\":\"M\",\"pid\":")?;
     push_decimal(out, group_of(groups, rank) as u64)?;
@@ -108,7 +108,7 @@ fn push_spans(
     out: &mut Bytes,
     groups: &[u8],
     by_rank: &ByRank<'_>,
-    marks: &[Mark],
+    marks: &[DrawnMark],
 ) -> Result<(), AllocError>
     ensures { OnOk result (out.new ≡ out.old ++ flat_map (span_text groups.now (view_of by_rank.now)) marks.now) }
 {
@@ -124,7 +124,7 @@ fn push_span(
     out: &mut Bytes,
     groups: &[u8],
     by_rank: &ByRank<'_>,
-    mark: &Mark,
+    mark: &DrawnMark,
 ) -> Result<(), AllocError>
     ensures { OnOk result (out.new ≡ out.old ++ span_text groups.now (view_of by_rank.now) mark.now) }
 {
@@ -137,7 +137,7 @@ fn push_span(
 fn push_span_of(
     out: &mut Bytes,
     groups: &[u8],
-    mark: &Mark,
+    mark: &DrawnMark,
     call: &Call,
     reply: &Reply,
 ) -> Result<(), AllocError>
@@ -166,7 +166,7 @@ fn push_args(out: &mut Bytes, number: u32, call: &Call, reply: &Reply) -> Result
 }
 
 fn push_name(out: &mut Bytes, call: &Call, reply: &Reply) -> Result<(), AllocError>
-    ensures { OnOk result (out.new ≡ out.old ++ name_text call.now reply.now) }
+    ensures { OnOk result (out.new ≡ out.old ++ event_name_text call.now reply.now) }
 {
     match reply {
         Reply::Stopped(_) => push_text(out, b"stopped"),
@@ -202,7 +202,7 @@ fn push_place(out: &mut Bytes, groups: &[u8], rank: u8, column: u32) -> Result<(
 }
 
 /// The flows of messages, numbered by their receives.
-fn push_flows(out: &mut Bytes, groups: &[u8], receives: &[Receive]) -> Result<(), AllocError>
+fn push_flows(out: &mut Bytes, groups: &[u8], receives: &[DrawnReceive]) -> Result<(), AllocError>
     ensures { OnOk result (out.new ≡ out.old ++ flows_text groups.now 0 receives.now) }
 {
     let mut number = 0u64;
@@ -219,7 +219,7 @@ fn push_flow(
     out: &mut Bytes,
     groups: &[u8],
     number: u64,
-    receive: &Receive,
+    receive: &DrawnReceive,
 ) -> Result<(), AllocError>
     ensures { OnOk result (out.new ≡ out.old ++ flow_by groups.now number receive.now.rank receive.now.to receive.now.message) }
 {
@@ -233,7 +233,7 @@ fn push_flow_of(
     out: &mut Bytes,
     groups: &[u8],
     number: u64,
-    message: &Message,
+    message: &DrawnMessage,
     rank: u8,
     column: u32,
 ) -> Result<(), AllocError>

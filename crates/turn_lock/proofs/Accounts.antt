@@ -3,7 +3,7 @@ use Rattle.std.proofs.Common.{◌≡◌, ◌≢◌, ℕ, zero, suc, ◌+◌, ◌
 use Rattle.turn_lock.specs.Entries.{entries_of, StartsWith, Grows}
 use Rattle.turn_lock.specs.Rule.{account, fresh_accounts, seen_in, AccountsFit}
 use Rattle.turn_lock.specs.Steps.{own_in, IsOneAccount, informed, renewed}
-use Rattle.turn_lock.specs.Ends.{HasAccount, AllStand}
+use Rattle.turn_lock.specs.inside.Ends.{HasAccount, AllStand}
 use Rattle.turn_lock.specs.declared.view.Account.{Account}
 use Rattle.turn_lock.proofs.Growth.{starts_whole, grown_other, grown_starts}
 use Rattle.turn_lock.proofs.Sums.{put, put_else}

@@ -9,10 +9,10 @@ use Rattle.std.proofs.Math.Nat.{mod-add-mod}
 use Rattle.atomic_table.specs.Table.{Act, Valid, carried_after, step, keeps, takes, gives, stepped, Allows}
 use Rattle.atomic_table.proofs.Lists.{at_set, set_here, set_else, set_again, one_turn}
 use Rattle.turn_lock.specs.Entries.{entries_of, Grows}
-use Rattle.turn_lock.specs.Rule.{account, seen_in, total, tickets_at, tickets, accounts_of, Queue, StageFits, AccountsFit, ViewFits, Table, SlotFits, TurnRule}
-use Rattle.turn_lock.specs.Steps.{Here, IsOneAccount, informed, renewed, with_stage, turned_to, passed, Draws, Reads, Advances}
+use Rattle.turn_lock.specs.Rule.{account, seen_in, total, tickets_at, tickets, accounts_of, Queue, StageFits, AccountsFit, ViewFits, SlotTable, SlotFits, TurnRule}
+use Rattle.turn_lock.specs.Steps.{Here, IsOneAccount, informed, renewed, with_stage, turned_to, turn_passed, Draws, ReadsTurn, Advances}
 use Rattle.turn_lock.specs.declared.view.Account.{Account}
-use Rattle.turn_lock.specs.declared.view.View.{View}
+use Rattle.turn_lock.specs.declared.view.TokenView.{TokenView}
 use Rattle.turn_lock.specs.declared.view.Stage.{Stage}
 use Rattle.turn_lock.specs.declared.view.Stage.TheVariants.{Idle, Waiting, Turn}
 use Rattle.turn_lock.proofs.Growth.{starts_whole, grown_numbers}
@@ -62,40 +62,40 @@ stage_served q latest latest' me j (Waiting t) here other h =
 stage_served q latest latest' me j (Turn t) here other h = absurd (other (sym h.2 ∙ (ap q.holder (sym h.0) ∙ here)))
 
 module _ {T E F : Type 0} (entries : T → List (ℕ × E)) (frame_of : T → F) (seats : ℕ) (told : F) where
-  abbrev pub Rule : Table T E F → Type 0
+  abbrev pub Rule : SlotTable T E F → Type 0
   Rule = TurnRule entries frame_of seats told
 
   -- the value lies in the slot
-  abbrev pub IsHome : List (ℕ × E) → Table T E F → Type 0
+  abbrev pub IsHome : List (ℕ × E) → SlotTable T E F → Type 0
   IsHome history s = (x : T) × (s.homes ≡ some (Some x) ∷ []) × (entries x ≡ history) × (frame_of x ≡ told)
 
   -- some view of these has the turn
-  abbrev pub HasTurn : List (View E F) → Type 0
-  HasTurn vs = (j : ℕ) × (v : View E F) × (t : ℕ) × (get_elem? vs j ≡ some v) × (v.stage ≡ Turn t)
+  abbrev pub HasTurn : List (TokenView E F) → Type 0
+  HasTurn vs = (j : ℕ) × (v : TokenView E F) × (t : ℕ) × (get_elem? vs j ≡ some v) × (v.stage ≡ Turn t)
 
-  unchanged : (s : Table T E F) → Rule s → (i id : ℕ) (v : View E F) → get_elem? s.views id ≡ some v → (c : List (ℕ × Option T)) → Rule (stepped s i (get_or s.words i 0) id c v keeps)
+  unchanged : (s : SlotTable T E F) → Rule s → (i id : ℕ) (v : TokenView E F) → get_elem? s.views id ≡ some v → (c : List (ℕ × Option T)) → Rule (stepped s i (get_or s.words i 0) id c v keeps)
   unchanged s r i id v at c = subst Rule (λ p. record { words = sym (set-get_or s.words i 0) p; homes = s.homes; views = sym (set_again s.views id v at) p }) r
 
   -- the seat with the turn keeps it when another view changes
-  pub slot_stays : (s : Table T E F) (r : Rule s) (me : ℕ) (v w : View E F) (ws : List ℕ) → get_elem? s.views me ≡ some v → ((t : ℕ) → v.stage ≢ Turn t)
+  pub slot_stays : (s : SlotTable T E F) (r : Rule s) (me : ℕ) (v w : TokenView E F) (ws : List ℕ) → get_elem? s.views me ≡ some v → ((t : ℕ) → v.stage ≢ Turn t)
       → SlotFits entries frame_of told r.history record { words = ws; homes = s.homes; views = set s.views me w }
   slot_stays s r me v w ws at idle = ⊎_elim (λ (home : IsHome r.history s). inl home)
       (λ (u : HasTurn s.views).
-      inr (u.0, u.1, u.2, set_else s.views me u.0 w (λ e. idle u.2 (let same : v ≡ u.1 = some-injective v u.1 (sym at ∙ (ap (λ (k : ℕ). get_elem? s.views k) (sym e) ∙ u.3)) in ap (λ (z : View E F). z.stage) same ∙ u.4)) ∙ u.3, u.4))
+      inr (u.0, u.1, u.2, set_else s.views me u.0 w (λ e. idle u.2 (let same : v ≡ u.1 = some-injective v u.1 (sym at ∙ (ap (λ (k : ℕ). get_elem? s.views k) (sym e) ∙ u.3)) in ap (λ (z : TokenView E F). z.stage) same ∙ u.4)) ∙ u.3, u.4))
       r.slot
 
-  pub not_turn : (v : View E F) (a : Stage) → v.stage ≡ a → ((t : ℕ) → a ≢ Turn t) → (t : ℕ) → v.stage ≢ Turn t
+  pub not_turn : (v : TokenView E F) (a : Stage) → v.stage ≡ a → ((t : ℕ) → a ≢ Turn t) → (t : ℕ) → v.stage ≢ Turn t
   not_turn v a is ne t e = ne t (sym is ∙ e)
 
-  pub idle_not_turn : (v : View E F) → v.stage ≡ Idle → (t : ℕ) → v.stage ≢ Turn t
+  pub idle_not_turn : (v : TokenView E F) → v.stage ≡ Idle → (t : ℕ) → v.stage ≢ Turn t
   idle_not_turn v idle = not_turn v Idle idle (λ t e. cc)
 
-  draws : (slots id : ℕ) (v : View E F) → v.stage ≡ Idle → 0 < length v.accounts → Allows Rule slots id (v, []) 0 (λ n. (n + 1) % 2 ^ 64) (Draws (step slots 0 1 0 none) (v, []))
+  draws : (slots id : ℕ) (v : TokenView E F) → v.stage ≡ Idle → 0 < length v.accounts → Allows Rule slots id (v, []) 0 (λ n. (n + 1) % 2 ^ 64) (Draws (step slots 0 1 0 none) (v, []))
   unfolding drawn
   draws slots id v idle some_account s r deep at small =
       let q : Queue = r.queue in
       let q' : Queue = drawn q id in
-      let w : View E F = with_stage (Waiting q.next) v in
+      let w : TokenView E F = with_stage (Waiting q.next) v in
       let f : ViewFits seats told r.history q r.owner id v = r.each id v at in
       let no_ticket : tickets_at v.stage ≡ 0 = ap tickets_at idle in
       let waiting : q.next + 1 ≡ q.serving + total tickets (set s.views id w) = (let e = r.waiting in let t = total_set tickets s.views id v w at in omega arith) in
@@ -129,23 +129,23 @@ module _ {T E F : Type 0} (entries : T → List (ℕ × E)) (frame_of : T → F)
   turn_at : (q : Queue) (latest : Type 0) (j t : ℕ) (a : Stage) → a ≡ Turn t → StageFits q latest j a → (q.serving ≡ t) × (t < q.next) × (q.holder t ≡ j) × latest
   turn_at q latest j t a is h = subst (StageFits q latest j) is h
 
-  pub home_at : (s : Table T E F) (x : T) → s.homes ≡ some (Some x) ∷ [] → get_elem? s.homes 0 ≡ some (some (Some x))
+  pub home_at : (s : SlotTable T E F) (x : T) → s.homes ≡ some (Some x) ∷ [] → get_elem? s.homes 0 ≡ some (some (Some x))
   home_at s x is = ap (λ (hs : List _). get_elem? hs 0) is
 
-  -- a read of the served word keeps the rule, and tells what `Reads` says
-  abbrev Read : Table T E F → View E F → ℕ → ℕ → Type 0
-  Read s v slots id = (w : View E F) × (a : Act (Option T)) × Valid s.homes [] a × Rule (stepped s 1 (get_or s.words 1 0) id [] w a)
-      × Reads entries frame_of (step slots 1 0 0 none) (v, []) (get_or s.words 1 0) (w, carried_after [] a)
+  -- a read of the served word keeps the rule, and tells what `ReadsTurn` says
+  abbrev Read : SlotTable T E F → TokenView E F → ℕ → ℕ → Type 0
+  Read s v slots id = (w : TokenView E F) × (a : Act (Option T)) × Valid s.homes [] a × Rule (stepped s 1 (get_or s.words 1 0) id [] w a)
+      × ReadsTurn entries frame_of (step slots 1 0 0 none) (v, []) (get_or s.words 1 0) (w, carried_after [] a)
 
-  same_ticket : (v : View E F) (t t' : ℕ) → v.stage ≡ Waiting t → v.stage ≡ Waiting t' → t ≡ t'
+  same_ticket : (v : TokenView E F) (t t' : ℕ) → v.stage ≡ Waiting t → v.stage ≡ Waiting t' → t ≡ t'
   same_ticket v t t' is is' = let both : Waiting t ≡ Waiting t' = sym is ∙ is' in cc
 
   -- where the seat's ticket is served and the value lies in the slot, the seat takes it
-  gains : (s : Table T E F) (r : Rule s) (slots id t : ℕ) (v : View E F) → get_elem? s.views id ≡ some v → v.stage ≡ Waiting t → r.queue.serving ≡ t → IsHome r.history s → Read s v slots id
+  gains : (s : SlotTable T E F) (r : Rule s) (slots id t : ℕ) (v : TokenView E F) → get_elem? s.views id ≡ some v → v.stage ≡ Waiting t → r.queue.serving ≡ t → IsHome r.history s → Read s v slots id
   gains s r slots id t v at waits now home =
       let x : T = home.0 in
       let q : Queue = r.queue in
-      let w : View E F = turned_to t (entries x) v in
+      let w : TokenView E F = turned_to t (entries x) v in
       let f : ViewFits seats told r.history q r.owner id v = r.each id v at in
       let mine = waits_at q (seen_in v.accounts ≡ r.history) id t v.stage waits f.stage in
       let one_ticket : tickets_at v.stage ≡ 1 = ap tickets_at waits in
@@ -192,17 +192,17 @@ module _ {T E F : Type 0} (entries : T → List (ℕ × E)) (frame_of : T → F)
       )
 
   -- where the seat's ticket is served, no other seat has the turn
-  not_away : (s : Table T E F) (r : Rule s) (id t : ℕ) (v : View E F) → get_elem? s.views id ≡ some v → v.stage ≡ Waiting t → r.queue.serving ≡ t → ¬ (HasTurn s.views)
+  not_away : (s : SlotTable T E F) (r : Rule s) (id t : ℕ) (v : TokenView E F) → get_elem? s.views id ≡ some v → v.stage ≡ Waiting t → r.queue.serving ≡ t → ¬ (HasTurn s.views)
   not_away s r id t v at waits now u =
       let q : Queue = r.queue in
       let mine = waits_at q (seen_in v.accounts ≡ r.history) id t v.stage waits (r.each id v at).stage in
       let theirs = turn_at q (seen_in u.1.accounts ≡ r.history) u.0 u.2 u.1.stage u.4 (r.each u.0 u.1 u.3).stage in
       let same_j : id ≡ u.0 = sym mine.2 ∙ (ap q.holder (sym now ∙ theirs.0) ∙ theirs.2) in
       let same_v : v ≡ u.1 = some-injective v u.1 (sym at ∙ (ap (λ (k : ℕ). get_elem? s.views k) same_j ∙ u.3)) in
-      let no : Waiting t ≡ Turn u.2 = sym waits ∙ (ap (λ (z : View E F). z.stage) same_v ∙ u.4) in cc
+      let no : Waiting t ≡ Turn u.2 = sym waits ∙ (ap (λ (z : TokenView E F). z.stage) same_v ∙ u.4) in cc
 
   -- the word found is the ticket's only where that ticket is served: fewer than 2 ^ 64 tickets are drawn and not passed
-  is_served : (s : Table T E F) (r : Rule s) (id t : ℕ) (v : View E F) → get_elem? s.views id ≡ some v → v.stage ≡ Waiting t → get_or s.words 1 0 ≡ t % 2 ^ 64 → r.queue.serving ≡ t
+  is_served : (s : SlotTable T E F) (r : Rule s) (id t : ℕ) (v : TokenView E F) → get_elem? s.views id ≡ some v → v.stage ≡ Waiting t → get_or s.words 1 0 ≡ t % 2 ^ 64 → r.queue.serving ≡ t
   is_served s r id t v at waits hit =
       let q : Queue = r.queue in
       let mine = waits_at q (seen_in v.accounts ≡ r.history) id t v.stage waits (r.each id v at).stage in
@@ -212,7 +212,7 @@ module _ {T E F : Type 0} (entries : T → List (ℕ × E)) (frame_of : T → F)
       let found : get_or s.words 1 0 ≡ q.serving % 2 ^ 64 = ap (λ (ws : List ℕ). get_or ws 1 0) r.words in
       one_turn q.serving t (2 ^ 64) mine.0 near (sym found ∙ hit)
 
-  reads : (slots id t : ℕ) (v : View E F) → v.stage ≡ Waiting t → Allows Rule slots id (v, []) 1 (λ n. n) (Reads entries frame_of (step slots 1 0 0 none) (v, []))
+  reads : (slots id t : ℕ) (v : TokenView E F) → v.stage ≡ Waiting t → Allows Rule slots id (v, []) 1 (λ n. n) (ReadsTurn entries frame_of (step slots 1 0 0 none) (v, []))
   reads slots id t v waits s r deep at small =
       let miss : get_or s.words 1 0 ≢ t % 2 ^ 64 → Read s v slots id = λ ne. (
         v,
@@ -238,12 +238,12 @@ module _ {T E F : Type 0} (entries : T → List (ℕ × E)) (frame_of : T → F)
   same_carried : (x y : T) (c : List (ℕ × Option T)) → c ≡ (0, Some x) ∷ [] → c ≡ (0, Some y) ∷ [] → x ≡ y
   same_carried x y c is is' = let e : Some x ≡ Some y = ap carried_value (sym is ∙ is') in cc
 
-  advances : (id t k : ℕ) (x : T) (v : View E F) → v.stage ≡ Turn t → IsOneAccount k v.accounts → Grows k (seen_in v.accounts) (entries x) → Some (frame_of x) ≡ v.frame
+  advances : (id t k : ℕ) (x : T) (v : TokenView E F) → v.stage ≡ Turn t → IsOneAccount k v.accounts → Grows k (seen_in v.accounts) (entries x) → Some (frame_of x) ≡ v.frame
       → Allows Rule 1 id (v, (0, Some x) ∷ []) 1 (λ n. (n + 1) % 2 ^ 64) (Advances entries (step 1 1 1 0 none) (v, (0, Some x) ∷ []))
   unfolding served
   advances id t k x v turn one grows frame s r deep at small =
       let q : Queue = r.queue in
-      let w : View E F = passed (entries x) v in
+      let w : TokenView E F = turn_passed (entries x) v in
       let f : ViewFits seats told r.history q r.owner id v = r.each id v at in
       let mine = turn_at q (seen_in v.accounts ≡ r.history) id t v.stage turn f.stage in
       let one_ticket : tickets_at v.stage ≡ 1 = ap tickets_at turn in
@@ -286,7 +286,7 @@ module _ {T E F : Type 0} (entries : T → List (ℕ × E)) (frame_of : T → F)
               });
           slot = inl (x, one_home s.homes (some (Some x)) deep, refl, is_told);
         },
-        λ y is. ap (λ (z : T). (passed (entries z) v, [])) (same_carried x y ((0, Some x) ∷ []) refl is),
+        λ y is. ap (λ (z : T). (turn_passed (entries z) v, [])) (same_carried x y ((0, Some x) ∷ []) refl is),
       )
 
   -- the same, said of a view and its slots together
@@ -294,9 +294,9 @@ module _ {T E F : Type 0} (entries : T → List (ℕ × E)) (frame_of : T → F)
   draws_at slots id m idle empty some_account =
       subst (λ (c : List (ℕ × Option T)). Allows Rule slots id (m.0, c) 0 (λ n. (n + 1) % 2 ^ 64) (Draws (step slots 0 1 0 none) (m.0, c))) (sym empty) (draws slots id m.0 idle some_account)
 
-  pub reads_at : (slots id t : ℕ) (m : Here T E F) → m.0.stage ≡ Waiting t → m.1 ≡ [] → Allows Rule slots id m 1 (λ n. n) (Reads entries frame_of (step slots 1 0 0 none) m)
+  pub reads_at : (slots id t : ℕ) (m : Here T E F) → m.0.stage ≡ Waiting t → m.1 ≡ [] → Allows Rule slots id m 1 (λ n. n) (ReadsTurn entries frame_of (step slots 1 0 0 none) m)
   reads_at slots id t m waits empty =
-      subst (λ (c : List (ℕ × Option T)). Allows Rule slots id (m.0, c) 1 (λ n. n) (Reads entries frame_of (step slots 1 0 0 none) (m.0, c))) (sym empty) (reads slots id t m.0 waits)
+      subst (λ (c : List (ℕ × Option T)). Allows Rule slots id (m.0, c) 1 (λ n. n) (ReadsTurn entries frame_of (step slots 1 0 0 none) (m.0, c))) (sym empty) (reads slots id t m.0 waits)
 
   pub advances_at : (slots id t k : ℕ) (x : T) (m : Here T E F) → slots ≡ 1 → m.0.stage ≡ Turn t → IsOneAccount k m.0.accounts → Grows k (seen_in m.0.accounts) (entries x)
       → Some (frame_of x) ≡ m.0.frame → m.1 ≡ (0, Some x) ∷ [] → Allows Rule slots id m 1 (λ n. (n + 1) % 2 ^ 64) (Advances entries (step slots 1 1 0 none) m)

@@ -6,7 +6,7 @@ use Rattle.atomic_table.specs.Seated.{TableId}
 use Rattle.turn_lock.specs.Entries.{entries_of, StartsWith}
 use Rattle.turn_lock.specs.Rule.{account, fresh_accounts}
 use Rattle.turn_lock.specs.Seat.{SeatView}
-use Rattle.turn_lock.specs.Ends.{accounts_at, IsIdleAt, HasAccount, AllStand}
+use Rattle.turn_lock.specs.inside.Ends.{accounts_at, IsIdleAt, HasAccount, AllStand}
 use Rattle.turn_lock.specs.declared.view.Account.{Account}
 
 module _ {E F : Type 0} where

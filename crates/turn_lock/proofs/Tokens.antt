@@ -4,11 +4,11 @@ use mathlib.Core.Option.{some, some-ne-none, some-injective}
 use lib.ListN.{get_elem?}
 use Rattle.atomic_table.specs.Table.{Splits, Joins, opening, Seen, Final}
 use Rattle.atomic_table.proofs.Lists.{set_else, at_longer}
-use Rattle.turn_lock.specs.Rule.{account, fresh_accounts, first_view, seen_in, total, tickets_at, tickets, accounts_of, Queue, StageFits, AccountsFit, ViewFits, Table, TurnRule}
+use Rattle.turn_lock.specs.Rule.{account, fresh_accounts, first_view, seen_in, total, tickets_at, tickets, accounts_of, Queue, StageFits, AccountsFit, ViewFits, SlotTable, TurnRule}
 use Rattle.turn_lock.specs.Steps.{first_only, but_first, without_first, first_alone, both_views, spent_view}
-use Rattle.turn_lock.specs.Ends.{HasAccount, AllStand, EndsWith}
+use Rattle.turn_lock.specs.inside.Ends.{HasAccount, AllStand, EndsWith}
 use Rattle.turn_lock.specs.declared.view.Account.{Account}
-use Rattle.turn_lock.specs.declared.view.View.{View}
+use Rattle.turn_lock.specs.declared.view.TokenView.{TokenView}
 use Rattle.turn_lock.specs.declared.view.Stage.{Stage}
 use Rattle.turn_lock.specs.declared.view.Stage.TheVariants.{Idle, Turn}
 use Rattle.turn_lock.proofs.Accounts.{fits_owner, fits_append, fits_lacking, all_stand, owner_at, some_owned, length-fresh, fresh_lacks, fits_fresh}
@@ -40,13 +40,13 @@ each_last {A} P vs w mine others j v e = elim (at_end vs w v j e) [
 ]
 
 module _ {T E F : Type 0} (entries : T → List (ℕ × E)) (frame_of : T → F) (seats : ℕ) (told : F) where
-  abbrev KeptBy : Table T E F → Type 0
+  abbrev KeptBy : SlotTable T E F → Type 0
   KeptBy = TurnRule entries frame_of seats told
 
-  pub splits : (id k n : ℕ) (v : View E F) → v.stage ≡ Idle → v.accounts ≡ fresh_accounts k (suc n) → Splits KeptBy id v (without_first v) (first_alone v)
+  pub splits : (id k n : ℕ) (v : TokenView E F) → v.stage ≡ Idle → v.accounts ≡ fresh_accounts k (suc n) → Splits KeptBy id v (without_first v) (first_alone v)
   splits id k n v idle all s r at =
-      let left : View E F = without_first v in
-      let right : View E F = first_alone v in
+      let left : TokenView E F = without_first v in
+      let right : TokenView E F = first_alone v in
       let f : ViewFits seats told r.history r.queue r.owner id v = r.each id v at in
       let new : ℕ = length s.views in
       let owner : ℕ → ℕ = put r.owner k new in
@@ -61,7 +61,7 @@ module _ {T E F : Type 0} (entries : T → List (ℕ × E)) (frame_of : T → F)
       (let e = r.waiting in let u = total_set tickets s.views id v left at in let a = total_append tickets (set s.views id left) (right ∷ []) in omega arith) in
       let shares : total accounts_of (set s.views id left ++ right ∷ []) ≡ seats =
       (let e = r.shares in let u = total_set accounts_of s.views id v left at in let a = total_append accounts_of (set s.views id left) (right ∷ []) in omega arith) in
-      let P : ℕ → View E F → Type 0 = ViewFits seats told r.history r.queue owner in
+      let P : ℕ → TokenView E F → Type 0 = ViewFits seats told r.history r.queue owner in
       record {
         history = r.history;
         queue = r.queue;
@@ -100,16 +100,16 @@ module _ {T E F : Type 0} (entries : T → List (ℕ × E)) (frame_of : T → F)
             (slot_stays entries frame_of seats told s r id v left s.words at (idle_not_turn entries frame_of seats told v idle));
       }
 
-  pub joins : (id other : ℕ) (v w : View E F) → v.stage ≡ Idle → w.stage ≡ Idle → 0 < length v.accounts → Joins KeptBy id v other w (both_views v w) spent_view
+  pub joins : (id other : ℕ) (v w : TokenView E F) → v.stage ≡ Idle → w.stage ≡ Idle → 0 < length v.accounts → Joins KeptBy id v other w (both_views v w) spent_view
   joins id other v w idle idle' some_account s r at ne at' =
-      let both : View E F = both_views v w in
-      let spent : View E F = spent_view in
-      let first : List (View E F) = set s.views id both in
+      let both : TokenView E F = both_views v w in
+      let spent : TokenView E F = spent_view in
+      let first : List (TokenView E F) = set s.views id both in
       let there : get_elem? s.views other ≡ some w = sym (set_else s.views id other both ne) ∙ at' in
       let f : ViewFits seats told r.history r.queue r.owner id v = r.each id v at in
       let g : ViewFits seats told r.history r.queue r.owner other w = r.each other w there in
       let owner : ℕ → ℕ = moved r.owner other id in
-      let P : ℕ → View E F → Type 0 = ViewFits seats told r.history r.queue owner in
+      let P : ℕ → TokenView E F → Type 0 = ViewFits seats told r.history r.queue owner in
       let no_ticket : tickets_at v.stage ≡ 0 = ap tickets_at idle in
       let no_ticket' : tickets_at w.stage ≡ 0 = ap tickets_at idle' in
       let count : length (w.accounts ++ v.accounts) ≡ length w.accounts + length v.accounts = length-append w.accounts v.accounts in
@@ -128,7 +128,7 @@ module _ {T E F : Type 0} (entries : T → List (ℕ × E)) (frame_of : T → F)
         shares = shares;
         each = each_set P first other spent
             record { stage = tt; accounts = tt; frame = λ h. absurd (omega arith); live = omega arith }
-            (λ j u apart here. each_set (λ (i : ℕ) (z : View E F). i ≢ other → P i z) s.views id both
+            (λ j u apart here. each_set (λ (i : ℕ) (z : TokenView E F). i ≢ other → P i z) s.views id both
             (λ a. record {
               stage = idle_fits r.queue (seen_in both.accounts ≡ r.history) id v.stage idle;
               accounts = fits_append seats owner r.history id w.accounts v.accounts
@@ -151,7 +151,7 @@ module _ {T E F : Type 0} (entries : T → List (ℕ × E)) (frame_of : T → F)
               u.1,
               u.2,
               set_else first other u.0 spent (λ e. let same : w ≡ u.1 = some-injective w u.1 (sym at' ∙ (ap (λ (k : ℕ). get_elem? first k) (sym e) ∙ u.3)) in
-                  let no : Idle ≡ Turn u.2 = sym idle' ∙ (ap (λ (z : View E F). z.stage) same ∙ u.4) in absurd (cc)) ∙ u.3,
+                  let no : Idle ≡ Turn u.2 = sym idle' ∙ (ap (λ (z : TokenView E F). z.stage) same ∙ u.4) in absurd (cc)) ∙ u.3,
               u.4,
             ))
             (slot_stays entries frame_of seats told s r id v both s.words at (idle_not_turn entries frame_of seats told v idle));
@@ -171,16 +171,16 @@ module _ {T E F : Type 0} (entries : T → List (ℕ × E)) (frame_of : T → F)
     slot = inl (x, refl, none_yet, is_told);
   }
     where
-      only : (j : ℕ) (v : View E F) → get_elem? (first_view seats told ∷ []) j ≡ some v → ViewFits seats told [] empty (λ k. 0) j v
+      only : (j : ℕ) (v : TokenView E F) → get_elem? (first_view seats told ∷ []) j ≡ some v → ViewFits seats told [] empty (λ k. 0) j v
       only zero v e = subst (ViewFits seats told [] empty (λ k. 0) 0) (some-injective (first_view seats told) v e)
           record { stage = tt; accounts = fits_fresh E seats seats 0 (omega arith); frame = λ h. refl; live = omega arith }
       only (suc j) v e = absurd (some-ne-none v (sym e))
 
   -- the token with every account is idle, so no seat has the turn, and the value is in the slot
-  pub closes : (id : ℕ) (v : View E F) (ws : List ℕ) (xs : List (Option T)) (o : Option T) → v.stage ≡ Idle → ((k : ℕ) → k < seats → HasAccount k v.accounts)
+  pub closes : (id : ℕ) (v : TokenView E F) (ws : List ℕ) (xs : List (Option T)) (o : Option T) → v.stage ≡ Idle → ((k : ℕ) → k < seats → HasAccount k v.accounts)
       → Final (Seen KeptBy id v) ws xs → get_elem? xs 0 ≡ some o → (x : T) × (o ≡ Some x) × EndsWith entries frame_of seats told v.accounts x
   closes id v ws xs o idle all end out =
-      let s : Table T E F = end.0 in let r : KeptBy s = end.1.0 in let at : get_elem? s.views id ≡ some v = end.1.1 in
+      let s : SlotTable T E F = end.0 in let r : KeptBy s = end.1.0 in let at : get_elem? s.views id ≡ some v = end.1.1 in
       let f : ViewFits seats told r.history r.queue r.owner id v = r.each id v at in
       ⊎_elim (λ (home : IsHome entries frame_of seats told r.history s).
       let there : get_elem? xs 0 ≡ some (Some home.0) = end.4 0 (Some home.0) (home_at entries frame_of seats told s home.0 home.1) in (
@@ -200,4 +200,4 @@ module _ {T E F : Type 0} (entries : T → List (ℕ × E)) (frame_of : T → F)
       let mine : r.owner k.0 ≡ id = owner_at seats r.owner r.history id k.0 v.accounts f.accounts (all k.0 k.1) in
       let same_j : id ≡ u.0 = sym mine ∙ k.2 in
       let same : v ≡ u.1 = some-injective v u.1 (sym at ∙ (ap (λ (i : ℕ). get_elem? s.views i) same_j ∙ u.3)) in
-      let no : Idle ≡ Turn u.2 = sym idle ∙ (ap (λ (z : View E F). z.stage) same ∙ u.4) in absurd (cc)) r.slot
+      let no : Idle ≡ Turn u.2 = sym idle ∙ (ap (λ (z : TokenView E F). z.stage) same ∙ u.4) in absurd (cc)) r.slot

@@ -3,5 +3,5 @@ pub mod Seat
 pub mod Rule
 pub mod Steps
 pub mod Rests
-pub mod Ends
 pub mod Seats
+pub mod inside

@@ -5,7 +5,7 @@ use lib.ListN.{get_elem?}
 use Rattle.atomic_table.specs.Table.{State}
 use Rattle.turn_lock.specs.Entries.{entries_of, StartsWith}
 use Rattle.turn_lock.specs.declared.view.Account.{Account}
-use Rattle.turn_lock.specs.declared.view.View.{View}
+use Rattle.turn_lock.specs.declared.view.TokenView.{TokenView}
 use Rattle.turn_lock.specs.declared.view.Stage.{Stage}
 use Rattle.turn_lock.specs.declared.view.Stage.TheVariants.{Idle, Waiting, Turn}
 
@@ -19,11 +19,11 @@ fresh_accounts k zero = []
 fresh_accounts k (suc n) = account k [] [] ∷ fresh_accounts (suc k) n
 
 -- an idle token with these accounts
-abbrev pub idle_view : {E F : Type 0} → List (Account E) → F → View E F
+abbrev pub idle_view : {E F : Type 0} → List (Account E) → F → TokenView E F
 idle_view accounts frame = record { stage = Idle; accounts = accounts; frame = Some frame }
 
 -- the first token has every account
-abbrev pub first_view : {E F : Type 0} → ℕ → F → View E F
+abbrev pub first_view : {E F : Type 0} → ℕ → F → TokenView E F
 first_view seats frame = idle_view (fresh_accounts 0 seats) frame
 
 -- what the first account has seen
@@ -43,11 +43,11 @@ tickets_at (Waiting t) = 1
 tickets_at (Turn t) = 1
 
 -- how many tickets a view has
-abbrev pub tickets : {E F : Type 0} → View E F → ℕ
+abbrev pub tickets : {E F : Type 0} → TokenView E F → ℕ
 tickets v = tickets_at v.stage
 
 -- how many accounts a view has
-abbrev pub accounts_of : {E F : Type 0} → View E F → ℕ
+abbrev pub accounts_of : {E F : Type 0} → TokenView E F → ℕ
 accounts_of v = length v.accounts
 
 -- where the queue stands: the ticket that is served, the next one, and the view that drew each ticket
@@ -63,7 +63,7 @@ StageFits q latest j (Waiting t) = (q.serving ≤ t) × (t < q.next) × (q.holde
 StageFits q latest j (Turn t) = (q.serving ≡ t) × (t < q.next) × (q.holder t ≡ j) × latest
 
 -- an account of the view j: its number is no other view's, its own entries are those of the history with that number,
--- and it has seen a beginning of the history
+-- and it has seen a prefix of the history
 pub record AccountFits {E : Type 0} (seats : ℕ) (owner : ℕ → ℕ) (history : List (ℕ × E)) (j : ℕ) (a : Account E)
     : Type 0 where
   pub number : a.number < seats
@@ -79,26 +79,26 @@ AccountsFit seats owner history j (x ∷ xs) = AccountFits seats owner history j
 -- what holds of the view j: with the turn it has seen the whole history, with an account it knows the frame, and only
 -- with an account it draws a ticket
 pub record ViewFits {E F : Type 0} (seats : ℕ) (told : F) (history : List (ℕ × E)) (q : Queue) (owner : ℕ → ℕ)
-    (j : ℕ) (v : View E F) : Type 0 where
+    (j : ℕ) (v : TokenView E F) : Type 0 where
   pub stage : StageFits q (seen_in v.accounts ≡ history) j v.stage
   pub accounts : AccountsFit seats owner history j v.accounts
   pub frame : 0 < length v.accounts → v.frame ≡ Some told
   pub live : tickets v ≤ length v.accounts
 
 -- a table whose slot is empty or has a value
-abbrev pub Table : Type 0 → Type 0 → Type 0 → Type 0
-Table T E F = State (Option T) (View E F)
+abbrev pub SlotTable : Type 0 → Type 0 → Type 0 → Type 0
+SlotTable T E F = State (Option T) (TokenView E F)
 
 -- the value lies in the slot, with the history for entries and the frame of `new`; or some seat has the turn
-abbrev pub SlotFits : {T E F : Type 0} → (T → List (ℕ × E)) → (T → F) → F → List (ℕ × E) → Table T E F → Type 0
+abbrev pub SlotFits : {T E F : Type 0} → (T → List (ℕ × E)) → (T → F) → F → List (ℕ × E) → SlotTable T E F → Type 0
 SlotFits {T} {E} {F} entries frame_of told history s =
     ((x : T) × (s.homes ≡ some (Some x) ∷ []) × (entries x ≡ history) × (frame_of x ≡ told))
-    ⊎ ((j : ℕ) × (v : View E F) × (t : ℕ) × (get_elem? s.views j ≡ some v) × (v.stage ≡ Turn t))
+    ⊎ ((j : ℕ) × (v : TokenView E F) × (t : ℕ) × (get_elem? s.views j ≡ some v) × (v.stage ≡ Turn t))
 
 -- the rule: each entry of the history is a seat's; the words are the next ticket and the one that is served; as many
 -- tickets are drawn and not passed as there are views with one; there are as many accounts as seats, so at most 64 wait
 pub record TurnRule {T E F : Type 0} (entries : T → List (ℕ × E)) (frame_of : T → F) (seats : ℕ) (told : F)
-    (s : Table T E F) : Type 0 where
+    (s : SlotTable T E F) : Type 0 where
   pub history : List (ℕ × E)
   pub queue : Queue
   pub owner : ℕ → ℕ
@@ -107,5 +107,5 @@ pub record TurnRule {T E F : Type 0} (entries : T → List (ℕ × E)) (frame_of
   pub words : s.words ≡ queue.next % 2 ^ 64 ∷ queue.serving % 2 ^ 64 ∷ []
   pub waiting : queue.next ≡ queue.serving + total tickets s.views
   pub shares : total accounts_of s.views ≡ seats
-  pub each : (j : ℕ) (v : View E F) → get_elem? s.views j ≡ some v → ViewFits seats told history queue owner j v
+  pub each : (j : ℕ) (v : TokenView E F) → get_elem? s.views j ≡ some v → ViewFits seats told history queue owner j v
   pub slot : SlotFits entries frame_of told history s

@@ -25,9 +25,9 @@ pub record SeatView (E F : Type 0) : Type 0 where
   pub holds : Bool
 
 -- a new seat: it has added nothing, seen nothing, and doesn't hold
-abbrev pub fresh : {E F : Type 0} → LockView F → ℕ → SeatView E F
-fresh lock k = record { lock = lock; number = k; own = []; seen = []; holds = false }
+abbrev pub new_seat : {E F : Type 0} → LockView F → ℕ → SeatView E F
+new_seat lock k = record { lock = lock; number = k; own = []; seen = []; holds = false }
 
 -- the seats of a new lock, in the order of their numbers
 abbrev pub AreFresh : {E F : Type 0} → LockView F → List (SeatView E F) → Type 0
-AreFresh lock ss = (length ss ≡ lock.seats) × ((k : ℕ) → k < lock.seats → slice_get ss k ≡ Some (fresh lock k))
+AreFresh lock ss = (length ss ≡ lock.seats) × ((k : ℕ) → k < lock.seats → slice_get ss k ≡ Some (new_seat lock k))

@@ -1,32 +1,32 @@
 //! How a lock begins, with one token that is split into seats, and how it ends, with the seats joined again.
 ghost use Rattle.std.specs.Prelude.{◌≡◌, ℕ, ◌<◌, ◌≤◌, [], ◌∷◌, All, IfOk, Some, vec_len};
-ghost use Rattle.turn_lock.specs.Ends.{accounts_at, IsIdleAt, HasAccount, EndsWith};
+ghost use Rattle.turn_lock.specs.inside.Ends.{accounts_at, IsIdleAt, HasAccount, EndsWith};
 ghost use Rattle.turn_lock.specs.Rule.{first_view};
 ghost use Rattle.turn_lock.specs.Seat.{AreFresh, lock_on};
 ghost use Rattle.turn_lock.specs.Steps.{IsLockTable};
 ghost use Rattle.turn_lock.specs.declared.view.Stage.TheVariants.{Idle};
 
+use crate::ledger::Ledger;
 use crate::seat::{Seat, seat_at, token_of};
-use crate::steps::{Token, join, split};
-use crate::told::Told;
-use crate::view::{Terms, Turns, View};
+use crate::steps::{SeatToken, join, split};
+use crate::view::{LockRule, Terms, TokenView};
 use atomic_table::Table;
 use std::alloc::{AllocError, Global};
 
-pub type Board<T> = Table<
+pub type SeatTable<T> = Table<
     Option<T>,
-    View<<T as Told>::Entry, <T as Told>::Frame>,
+    TokenView<<T as Ledger>::Entry, <T as Ledger>::Frame>,
     Terms<T>,
-    Turns,
+    LockRule,
     Global,
 >;
 
 /// The table with the value in its slot, and the token that has every account.
-pub fn laid<T: Told>(
+pub fn laid<T: Ledger>(
     alloc: Global,
     value: T,
     terms: &Terms<T>,
-) -> Result<(Board<T>, Token<T>), AllocError>
+) -> Result<(SeatTable<T>, SeatToken<T>), AllocError>
     requires seats { (0 < terms.now.seats) × (terms.now.seats ≤ 64) }
     requires value { (T.entries value ≡ []) × (terms.now.first.value ≡ value) }
     ensures table { IfOk result (λ r. IsLockTable r.0.shared.table_id × (r.0.shared.key ≡ terms.now)) }
@@ -42,10 +42,10 @@ pub fn laid<T: Told>(
 }
 
 /// A seat for each account, in the order of their numbers.
-pub fn seated<T: Told>(
+pub fn seated<T: Ledger>(
     alloc: Global,
-    table: &Board<T>,
-    mut token: Token<T>,
+    table: &SeatTable<T>,
+    mut token: SeatToken<T>,
     terms: &Terms<T>,
 ) -> Result<Vec<Seat<T>>, AllocError>
     requires table { IsLockTable table.now.shared.table_id × (token.table_id ≡ table.now.shared.table_id) }
@@ -65,7 +65,7 @@ pub fn seated<T: Told>(
 }
 
 /// One token with the accounts of all seats.
-pub fn joined<T: Told>(table: &Board<T>, mut seats: Vec<Seat<T>>) -> Token<T>
+pub fn joined<T: Ledger>(table: &SeatTable<T>, mut seats: Vec<Seat<T>>) -> SeatToken<T>
     requires table { IsLockTable table.now.shared.table_id }
     requires seats { All (λ s. IsIdleAt table.now.shared.table_id s) seats.items }
     requires some { 0 < vec_len seats }
@@ -84,7 +84,7 @@ pub fn joined<T: Told>(table: &Board<T>, mut seats: Vec<Seat<T>>) -> Token<T>
 }
 
 /// The value of a table that no seat holds any more.
-pub fn emptied<T: Told>(table: Board<T>, token: Token<T>) -> T
+pub fn emptied<T: Ledger>(table: SeatTable<T>, token: SeatToken<T>) -> T
     requires table { IsLockTable table.shared.table_id × (token.table_id ≡ table.shared.table_id) }
     requires idle { token.me.0.stage ≡ Idle }
     requires all { (k : ℕ) → k < table.shared.key.seats → HasAccount k token.me.0.accounts }

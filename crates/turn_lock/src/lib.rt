@@ -3,13 +3,13 @@
 #![tactic(auto)]
 
 mod ends;
+mod ledger;
 mod lock;
 mod seat;
 mod sleepers;
 mod steps;
-mod told;
 mod view;
 
+pub use ledger::Ledger;
 pub use lock::TurnLock;
 pub use seat::{Held, Seat};
-pub use told::Told;

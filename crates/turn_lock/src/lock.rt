@@ -3,11 +3,11 @@ ghost use Rattle.std.specs.Prelude.{◌≡◌, ℕ, ◌<◌, ◌≤◌, ◌++◌
 ghost use Rattle.turn_lock.specs.Entries.{entries_of, StartsWith, Grows, appended};
 ghost use Rattle.turn_lock.specs.Seat.{HasFrame, AreFresh};
 
-use crate::ends::{Board, emptied, joined, laid, seated};
+use crate::ends::{SeatTable, emptied, joined, laid, seated};
+use crate::ledger::Ledger;
 use crate::seat::{Held, Seat};
 use crate::sleepers::Sleepers;
 use crate::steps::{give_turn, take_turn};
-use crate::told::Told;
 use crate::view::Terms;
 use std::alloc::{AllocError, Global};
 use std::marker::Model;
@@ -17,12 +17,12 @@ use std::sync::Wait;
 /// A ticket lock: a word for the next ticket, a word for the ticket that is served, and a slot for the value.
 /// Contracts see which lock it is, its number of seats and the frame of the value that it was made of.
 #[derive(Drop)]
-pub struct TurnLock<T: Told> {
-    table: Board<T>,
+pub struct TurnLock<T: Ledger> {
+    table: SeatTable<T>,
     sleepers: Sleepers,
 }
 
-impl<T: Told> Model for TurnLock<T> {
+impl<T: Ledger> Model for TurnLock<T> {
     ghost use Rattle.std.specs.Prelude.{◌<◌, ◌≤◌};
     ghost use Rattle.turn_lock.specs.Seat.{LockView, lock_on};
     ghost use Rattle.turn_lock.specs.Steps.{IsLockTable};
@@ -35,7 +35,7 @@ impl<T: Told> Model for TurnLock<T> {
         × (0 < l.table.shared.key.seats) × (l.table.shared.key.seats ≤ 64) };
 }
 
-impl<T: Told> TurnLock<T> {
+impl<T: Ledger> TurnLock<T> {
     /// A lock of this value, and its seats in the order of their numbers, from 0 on.
     pub fn new(
         alloc: Global,

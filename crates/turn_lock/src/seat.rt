@@ -1,11 +1,11 @@
 //! A seat, and what its holder works on.
 ghost use Rattle.std.specs.Prelude.{◌≡◌, ◌<◌, ◌∷◌, [], false, Some};
 ghost use Rattle.turn_lock.specs.Rule.{account, idle_view};
-ghost use Rattle.turn_lock.specs.Seat.{fresh, lock_on};
+ghost use Rattle.turn_lock.specs.Seat.{new_seat, lock_on};
 ghost use Rattle.turn_lock.specs.declared.view.Stage.TheVariants.{Idle};
 
-use crate::steps::Token;
-use crate::told::Told;
+use crate::ledger::Ledger;
+use crate::steps::SeatToken;
 use crate::view::Terms;
 use std::marker::Model;
 
@@ -18,13 +18,13 @@ pub struct Held<T> {
 /// A thread's place at a lock. Contracts see its lock, its number, its own entries, the entries that it has seen, and
 /// whether it holds.
 #[derive(Drop)]
-pub struct Seat<T: Told> {
+pub struct Seat<T: Ledger> {
     pub(crate) number: u32,
     pub(crate) seats: u32,
-    pub(crate) token: Token<T>,
+    pub(crate) token: SeatToken<T>,
 }
 
-impl<T: Told> Model for Seat<T> {
+impl<T: Ledger> Model for Seat<T> {
     ghost use Rattle.std.specs.Prelude.{◌<◌};
     ghost use Rattle.turn_lock.specs.Seat.{SeatView};
     ghost use Rattle.turn_lock.specs.Steps.{own_in};
@@ -44,7 +44,7 @@ impl<T: Told> Model for Seat<T> {
     ghost invariant = { λ s. (s.number < s.seats) × IsAtRest s.number s.token.me };
 }
 
-impl<T: Told> Seat<T> {
+impl<T: Ledger> Seat<T> {
     /// The number under which this seat's entries stand.
     pub fn number(&self) -> u32
         ensures { result ≡ self.now.number }
@@ -54,10 +54,10 @@ impl<T: Told> Seat<T> {
 }
 
 /// A new seat with this number.
-pub fn seat_at<T: Told>(token: Token<T>, number: u32, terms: &Terms<T>) -> Seat<T>
+pub fn seat_at<T: Ledger>(token: SeatToken<T>, number: u32, terms: &Terms<T>) -> Seat<T>
     requires number { number < terms.now.seats }
     requires token { token.me ≡ (idle_view (account number [] [] ∷ []) (T.frame terms.now.first.value), []) }
-    ensures { result ≡ fresh (lock_on token.table_id terms.now.seats (T.frame terms.now.first.value)) number }
+    ensures { result ≡ new_seat (lock_on token.table_id terms.now.seats (T.frame terms.now.first.value)) number }
 {
     Seat {
         number,
@@ -67,7 +67,7 @@ pub fn seat_at<T: Told>(token: Token<T>, number: u32, terms: &Terms<T>) -> Seat<
 }
 
 /// The token of a seat that doesn't hold.
-pub fn token_of<T: Told>(seat: Seat<T>) -> Token<T>
+pub fn token_of<T: Ledger>(seat: Seat<T>) -> SeatToken<T>
     requires { seat.holds ≡ false }
     ensures table { result.table_id ≡ seat.lock.table }
     ensures idle { (result.me.0.stage ≡ Idle) × (result.me.1 ≡ []) }

@@ -3,25 +3,25 @@
 ghost use Rattle.std.specs.Prelude.{◌≡◌, ℕ, ◌%◌, ◌^◌, ◌<◌, [], ◌∷◌, ◌+◌, length, Some, None};
 ghost use Rattle.turn_lock.specs.Entries.{Grows};
 ghost use Rattle.turn_lock.specs.Rule.{fresh_accounts, seen_in};
-ghost use Rattle.turn_lock.specs.Steps.{with_stage, passed, without_first, first_alone, both_views};
+ghost use Rattle.turn_lock.specs.Steps.{with_stage, turn_passed, without_first, first_alone, both_views};
 ghost use Rattle.turn_lock.specs.Steps.{IsLockTable, IsOneAccount, Takes};
 ghost use Rattle.turn_lock.specs.declared.view.Stage.TheVariants.{Idle, Waiting, Turn};
 
+use crate::ledger::Ledger;
 use crate::sleepers::Sleepers;
-use crate::told::Told;
-use crate::view::{Advance, Draw, JoinAccounts, Read, SplitFirst, Terms, Turns, View};
+use crate::view::{Advance, Draw, JoinAccounts, LockRule, Read, SplitFirst, Terms, TokenView};
 use atomic_table::{Seat, Shared};
 use std::hint;
 use std::sync::Wait;
 
 pub type LockTable<T> = Shared<
     Option<T>,
-    View<<T as Told>::Entry, <T as Told>::Frame>,
+    TokenView<<T as Ledger>::Entry, <T as Ledger>::Frame>,
     Terms<T>,
-    Turns,
+    LockRule,
 >;
 
-pub type Token<T> = Seat<Option<T>, View<<T as Told>::Entry, <T as Told>::Frame>>;
+pub type SeatToken<T> = Seat<Option<T>, TokenView<<T as Ledger>::Entry, <T as Ledger>::Frame>>;
 
 /// The word with the next ticket.
 const TICKET: usize = 0;
@@ -37,11 +37,11 @@ const SPINS: u32 = 100;
 
 const NEXT_SPINS: u32 = 2000;
 
-pub fn take_turn<T: Told, R: Wait>(
+pub fn take_turn<T: Ledger, R: Wait>(
     rt: &R,
     table: &LockTable<T>,
     sleepers: &Sleepers,
-    token: &mut Token<T>,
+    token: &mut SeatToken<T>,
 ) -> T
     requires table { IsLockTable table.now.table_id × (token.old.table_id ≡ table.now.table_id) }
     requires idle { (token.old.me.0.stage ≡ Idle) × (token.old.me.1 ≡ []) × (0 < length token.old.me.0.accounts) }
@@ -52,7 +52,7 @@ pub fn take_turn<T: Told, R: Wait>(
     wait(rt, table, sleepers, token, ticket)
 }
 
-fn draw<T: Told>(table: &LockTable<T>, token: &mut Token<T>) -> u64
+fn draw<T: Ledger>(table: &LockTable<T>, token: &mut SeatToken<T>) -> u64
     requires table { IsLockTable table.now.table_id × (token.old.table_id ≡ table.now.table_id) }
     requires idle { (token.old.me.0.stage ≡ Idle) × (token.old.me.1 ≡ []) × (0 < length token.old.me.0.accounts) }
     ensures table { token.new.table_id ≡ token.old.table_id }
@@ -62,11 +62,11 @@ fn draw<T: Told>(table: &LockTable<T>, token: &mut Token<T>) -> u64
 }
 
 /// Waits until the ticket is served, and takes the value.
-fn wait<T: Told, R: Wait>(
+fn wait<T: Ledger, R: Wait>(
     rt: &R,
     table: &LockTable<T>,
     sleepers: &Sleepers,
-    token: &mut Token<T>,
+    token: &mut SeatToken<T>,
     ticket: u64,
 ) -> T
     requires table { IsLockTable table.now.table_id × (token.old.table_id ≡ table.now.table_id) }
@@ -99,14 +99,19 @@ fn spins_at(turns: u64) -> u32 {
 }
 
 /// Gives the value back and serves the next ticket.
-pub fn give_turn<T: Told>(table: &LockTable<T>, sleepers: &Sleepers, token: &mut Token<T>, value: T)
+pub fn give_turn<T: Ledger>(
+    table: &LockTable<T>,
+    sleepers: &Sleepers,
+    token: &mut SeatToken<T>,
+    value: T,
+)
     requires table { IsLockTable table.now.table_id × (token.old.table_id ≡ table.now.table_id) }
     requires turn { ((t : ℕ) × (token.old.me.0.stage ≡ Turn t)) × (token.old.me.1 ≡ (0, None) ∷ []) }
     requires grows { let accounts = token.old.me.0.accounts in
         (k : ℕ) × IsOneAccount k accounts × Grows k (seen_in accounts) (T.entries value) }
     requires frame { Some (T.frame value) ≡ token.old.me.0.frame }
     ensures table { token.new.table_id ≡ token.old.table_id }
-    ensures passed { token.new.me ≡ (passed (T.entries value) token.old.me.0, []) }
+    ensures passed { token.new.me ≡ (turn_passed (T.entries value) token.old.me.0, []) }
 {
     let None = table.exchange(token, VALUE, Some(value)) else {
         unreachable!()
@@ -116,7 +121,7 @@ pub fn give_turn<T: Told>(table: &LockTable<T>, sleepers: &Sleepers, token: &mut
 }
 
 /// A token for the first account.
-pub fn split<T: Told>(table: &LockTable<T>, token: &mut Token<T>) -> Token<T>
+pub fn split<T: Ledger>(table: &LockTable<T>, token: &mut SeatToken<T>) -> SeatToken<T>
     requires table { IsLockTable table.now.table_id × (token.old.table_id ≡ table.now.table_id) }
     requires idle { token.old.me.0.stage ≡ Idle }
     requires fresh { (k : ℕ) × (n : ℕ) × (token.old.me.0.accounts ≡ fresh_accounts k (n + 1)) }
@@ -128,7 +133,7 @@ pub fn split<T: Told>(table: &LockTable<T>, token: &mut Token<T>) -> Token<T>
 }
 
 /// Takes over the accounts of another token.
-pub fn join<T: Told>(table: &LockTable<T>, token: &mut Token<T>, other: Token<T>)
+pub fn join<T: Ledger>(table: &LockTable<T>, token: &mut SeatToken<T>, other: SeatToken<T>)
     requires table { IsLockTable table.now.table_id × (token.old.table_id ≡ table.now.table_id) }
     requires idle { (token.old.me.0.stage ≡ Idle) × (0 < length token.old.me.0.accounts) }
     requires other { (other.table_id ≡ table.now.table_id) × (other.me.0.stage ≡ Idle) × (other.me.1 ≡ []) }

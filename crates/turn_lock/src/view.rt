@@ -1,7 +1,7 @@
 //! What the table's proofs know of each seat, the rule that they keep, and what each kind of step does.
 //!
-//! No value of `Stage`, `Account` or `View` is ever made: they exist in proofs alone, where a number never wraps.
-use crate::told::Told;
+//! No value of `Stage`, `Account` or `TokenView` is ever made: they exist in proofs alone, where a number never wraps.
+use crate::ledger::Ledger;
 use atomic_table::{Join, Play, Split, TableRule};
 use std::collections::LinkedList;
 use std::snapshot::Snapshot;
@@ -22,7 +22,7 @@ pub struct Account<E> {
 
 /// What one token of the table knows. It has one account while the lock is in use, several while seats are split off
 /// or joined, and none once it was joined to another. There its frame is `None`.
-pub struct View<E, F> {
+pub struct TokenView<E, F> {
     pub stage: Stage,
     pub accounts: LinkedList<Account<E>>,
     pub frame: Option<F>,
@@ -36,9 +36,9 @@ pub struct Terms<T> {
 }
 
 /// The rule of the lock's table: `TurnRule`.
-pub struct Turns;
+pub struct LockRule;
 
-impl<T: Told> TableRule<Option<T>, View<T::Entry, T::Frame>, Terms<T>> for Turns {
+impl<T: Ledger> TableRule<Option<T>, TokenView<T::Entry, T::Frame>, Terms<T>> for LockRule {
     ghost use Rattle.turn_lock.specs.Rule.{TurnRule, first_view};
 
     ghost holds = { λ terms. TurnRule T.entries T.frame terms.seats (T.frame terms.first.value) };
@@ -49,7 +49,7 @@ impl<T: Told> TableRule<Option<T>, View<T::Entry, T::Frame>, Terms<T>> for Turns
 /// A seat draws the next ticket.
 pub struct Draw;
 
-impl<T: Told> Play<Option<T>, View<T::Entry, T::Frame>> for Draw {
+impl<T: Ledger> Play<Option<T>, TokenView<T::Entry, T::Frame>> for Draw {
     ghost use Rattle.turn_lock.specs.Steps.{Draws};
 
     ghost then = { Draws };
@@ -58,16 +58,16 @@ impl<T: Told> Play<Option<T>, View<T::Entry, T::Frame>> for Draw {
 /// A seat reads which ticket is served, and takes the value if it is its own.
 pub struct Read;
 
-impl<T: Told> Play<Option<T>, View<T::Entry, T::Frame>> for Read {
-    ghost use Rattle.turn_lock.specs.Steps.{Reads};
+impl<T: Ledger> Play<Option<T>, TokenView<T::Entry, T::Frame>> for Read {
+    ghost use Rattle.turn_lock.specs.Steps.{ReadsTurn};
 
-    ghost then = { Reads T.entries T.frame };
+    ghost then = { ReadsTurn T.entries T.frame };
 }
 
 /// The seat with the turn gives the value back and has the next ticket served.
 pub struct Advance;
 
-impl<T: Told> Play<Option<T>, View<T::Entry, T::Frame>> for Advance {
+impl<T: Ledger> Play<Option<T>, TokenView<T::Entry, T::Frame>> for Advance {
     ghost use Rattle.turn_lock.specs.Steps.{Advances};
 
     ghost then = { Advances T.entries };
@@ -76,7 +76,7 @@ impl<T: Told> Play<Option<T>, View<T::Entry, T::Frame>> for Advance {
 /// The first account goes to a token of its own.
 pub struct SplitFirst;
 
-impl<E, F> Split<View<E, F>> for SplitFirst {
+impl<E, F> Split<TokenView<E, F>> for SplitFirst {
     ghost use Rattle.turn_lock.specs.Steps.{without_first, first_alone};
 
     ghost left = { without_first };
@@ -87,7 +87,7 @@ impl<E, F> Split<View<E, F>> for SplitFirst {
 /// One token takes over another's accounts.
 pub struct JoinAccounts;
 
-impl<E, F> Join<View<E, F>> for JoinAccounts {
+impl<E, F> Join<TokenView<E, F>> for JoinAccounts {
     ghost use Rattle.turn_lock.specs.Steps.{both_views, spent_view};
 
     ghost both = { both_views };

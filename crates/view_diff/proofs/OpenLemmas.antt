@@ -9,8 +9,8 @@ use Rattle.mpi_call.specs.declared.reply.Reply.TheVariants.{Done, Took, NotYet, 
 use Rattle.mpi_call.specs.Calls.{listed_by}
 use Rattle.mpi_call.specs.Members.{is_member}
 use Rattle.run_model.specs.Views.{View, items_taken, starts_of, taken_of}
-use Rattle.view_diff.specs.Marking.{unmarked_from, with_mark, with_marks, with_taken}
-use Rattle.view_diff.specs.Opens.{open_from}
+use Rattle.view_diff.specs.inside.Marking.{unmarked_from, with_mark, with_marks, with_taken_marks}
+use Rattle.view_diff.specs.Opens.{open_receives_from}
 
 -- the marks of these starts, by the numbers that were taken; the first start has this number
 abbrev marks_from : ℕ → List ℕ → List Call → List Bool
@@ -57,7 +57,7 @@ all_marks (number ∷ numbers) taken calls =
     ap (λ m. with_marks m numbers) (one_mark 0 number taken calls) ∙ ap (λ k. with_marks (marks_from 0 (taken ++ k ∷ []) calls) numbers) here
     ∙ all_marks numbers (taken ++ number ∷ []) calls ∙ ap (λ l. marks_from 0 l calls) (append_assoc taken (number ∷ []) numbers)
 
-unmarked_is : (number : ℕ) (taken : List ℕ) (calls : List Call) → unmarked_from number calls (marks_from number taken calls) ≡ open_from number taken calls
+unmarked_is : (number : ℕ) (taken : List ℕ) (calls : List Call) → unmarked_from number calls (marks_from number taken calls) ≡ open_receives_from number taken calls
 unmarked_is number taken [] = refl
 unmarked_is number taken (call ∷ calls) = rw (unmarked_is (suc number) taken calls) refl
 
@@ -72,14 +72,14 @@ taken_more call NotYet view = refl
 taken_more call (Peeked source start tag count) view = refl
 taken_more call (Stopped halt) view = refl
 
-taken_are : (view : View) (marks : List Bool) → with_taken marks view ≡ with_marks marks (taken_of view)
+taken_are : (view : View) (marks : List Bool) → with_taken_marks marks view ≡ with_marks marks (taken_of view)
 taken_are [] marks = refl
 taken_are ((call, reply) ∷ view) marks =
     taken_are view (with_marks marks (taken_of ((call, reply) ∷ [])))
     ∙ sym (with_marks-append marks (taken_of ((call, reply) ∷ [])) (taken_of view))
     ∙ ap (λ l. with_marks marks l) (sym (taken_more call reply view))
 
-pub open_is : (view : View) → unmarked_from 0 (starts_of view) (with_taken (replicate (length (starts_of view)) false) view) ≡ open_from 0 (taken_of view) (starts_of view)
+pub open_is : (view : View) → unmarked_from 0 (starts_of view) (with_taken_marks (replicate (length (starts_of view)) false) view) ≡ open_receives_from 0 (taken_of view) (starts_of view)
 open_is view =
     let starts : List Call = starts_of view in
     let taken : List ℕ = taken_of view in

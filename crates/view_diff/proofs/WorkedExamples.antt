@@ -13,7 +13,7 @@ use Rattle.mpi_call.specs.declared.reply.Reply.TheVariants.{Done, Took, Stopped}
 use Rattle.run_model.specs.Views.{View}
 use Rattle.view_diff.specs.Bare.{bare}
 use Rattle.view_diff.specs.Firsts.{is_told}
-use Rattle.view_diff.specs.Opens.{got_from, open_at}
+use Rattle.view_diff.specs.Opens.{got_from, open_receives_before}
 use Rattle.view_diff.specs.Partings.{AreAlike, IsParting}
 
 -- one start is completed
@@ -78,19 +78,19 @@ server =
     ∷ (Post 0 Any (Is 3) 0, Done) ∷ (Post 0 (From 1) (Is 3) 0, Done)
     ∷ (Take (3 ∷ 2 ∷ []) AnyOne, one 1 (message 1 0)) ∷ (Take (3 ∷ []) All, one 0 (message 1 1)) ∷ []
 
-open0 : open_at server 0 ≡ []
+open0 : open_receives_before server 0 ≡ []
 open0 = refl
 
-open1 : open_at server 1 ≡ (0, any_source) ∷ []
+open1 : open_receives_before server 1 ≡ (0, any_source) ∷ []
 open1 = refl
 
-open2 : open_at server 2 ≡ []
+open2 : open_receives_before server 2 ≡ []
 open2 = refl
 
-open5 : open_at server 5 ≡ (2, Post 0 Any (Is 3) 0) ∷ []
+open5 : open_receives_before server 5 ≡ (2, Post 0 Any (Is 3) 0) ∷ []
 open5 = refl
 
-open7 : open_at server 7 ≡ []
+open7 : open_receives_before server 7 ≡ []
 open7 = refl
 
 got0 : got_from server 0 ≡ (record { rank = 0; start = 2 }) ∷ (record { rank = 1; start = 0 }) ∷ []
@@ -106,7 +106,7 @@ got6 = refl
 abbrev forged : View
 forged = (take_first, one 0 (message 0 2)) ∷ (any_source, Done) ∷ []
 
-open_forged : open_at forged 2 ≡ []
+open_forged : open_receives_before forged 2 ≡ []
 open_forged = refl
 
 got_forged : got_from forged 0 ≡ (record { rank = 0; start = 2 }) ∷ []

@@ -1,11 +1,8 @@
 pub mod Bare
-pub mod Alike
 pub mod Partings
 pub mod Firsts
 pub mod Compared
-pub mod Marks
 pub mod Laws
-pub mod Marked
 pub mod Comparing
 pub mod Opens
-pub mod Marking
+pub mod inside

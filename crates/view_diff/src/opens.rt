@@ -1,8 +1,9 @@
 //! The receives from any source around a parting.
 ghost use Rattle.std.specs.Prelude.{◌≡◌, ◌++◌, ◌∷◌, [], IfOk, OnOk, drop, false, flat_map, length, map, replicate, slice_get, slice_index, take};
+ghost use Rattle.mpi_call.specs.Calls.{is_wildcard};
 ghost use Rattle.run_model.specs.Views.{items_taken, starts_of, taken_of};
-ghost use Rattle.view_diff.specs.Marking.{unmarked_from, with_mark, with_marks, with_taken};
-ghost use Rattle.view_diff.specs.Opens.{got_from, is_wildcard, is_wildcard_start, name_in, names_by, names_in, open_at};
+ghost use Rattle.view_diff.specs.inside.Marking.{unmarked_from, with_mark, with_marks, with_taken_marks};
+ghost use Rattle.view_diff.specs.Opens.{got_from, is_wildcard_start, names_of_got, names_by, names_in, open_receives_before};
 
 use mpi_call::call::{Call, Source};
 use mpi_call::reply::{Got, Item, Reply};
@@ -14,7 +15,7 @@ use view_tables::start_table::listed_by;
 
 /// A start: its number among its rank's starts, and its call.
 #[derive(Clone, Copy)]
-pub struct Start<'a> {
+pub struct OpenStart<'a> {
     pub number: usize,
     pub call: &'a Call,
 }
@@ -25,8 +26,8 @@ pub fn open_at<'a>(
     alloc: Global,
     own: &[&'a Event],
     number: usize,
-) -> Result<Vec<Start<'a>>, AllocError>
-    ensures { IfOk result (λ starts. map (λ start. (start.number, start.call.now)) starts.items ≡ open_at (map (λ event. (event.now.call, event.now.reply)) own.now) number) }
+) -> Result<Vec<OpenStart<'a>>, AllocError>
+    ensures { IfOk result (λ starts. map (λ start. (start.number, start.call.now)) starts.items ≡ open_receives_before (map (λ event. (event.now.call, event.now.reply)) own.now) number) }
 {
     let before = up_to(own, number);
     let starts = starts_of(alloc, before)?;
@@ -83,9 +84,9 @@ fn open_among<'a>(
     alloc: Global,
     starts: &[&'a Call],
     own: &[&Event],
-) -> Result<Vec<Start<'a>>, AllocError>
+) -> Result<Vec<OpenStart<'a>>, AllocError>
     ensures { IfOk result (λ found. map (λ start. (start.number, start.call.now)) found.items
-        ≡ unmarked_from 0 (map (λ call. call.now) starts.now) (with_taken (replicate (length starts.now) false) (map (λ event. (event.now.call, event.now.reply)) own.now))) }
+        ≡ unmarked_from 0 (map (λ call. call.now) starts.now) (with_taken_marks (replicate (length starts.now) false) (map (λ event. (event.now.call, event.now.reply)) own.now))) }
 {
     let mut marks = Vec::new(alloc);
     marks.resize(starts.len(), false)?;
@@ -95,7 +96,7 @@ fn open_among<'a>(
 
 /// Marks the starts that these events completed.
 fn mark_taken(marks: &mut [bool], own: &[&Event])
-    ensures { marks.new ≡ with_taken marks.old (map (λ event. (event.now.call, event.now.reply)) own.now) }
+    ensures { marks.new ≡ with_taken_marks marks.old (map (λ event. (event.now.call, event.now.reply)) own.now) }
 {
     let mut rest = own;
     while let [event, after @ ..] = rest {
@@ -145,7 +146,7 @@ fn unmarked<'a>(
     alloc: Global,
     starts: &[&'a Call],
     marks: &[bool],
-) -> Result<Vec<Start<'a>>, AllocError>
+) -> Result<Vec<OpenStart<'a>>, AllocError>
     ensures { IfOk result (λ found. map (λ start. (start.number, start.call.now)) found.items ≡ unmarked_from 0 (map (λ call. call.now) starts.now) marks.now) }
 {
     let mut found = Vec::new(alloc);
@@ -157,7 +158,7 @@ fn unmarked<'a>(
             return Ok(found);
         };
         if is_wildcard(call) && !*mark {
-            found.push(Start { number, call })?;
+            found.push(OpenStart { number, call })?;
         }
         number += 1;
         rest = after;
@@ -238,7 +239,7 @@ fn add_items(
 
 /// Adds the name of a message.
 fn add_name(names: &mut Names, got: &Got) -> Result<(), AllocError>
-    ensures { OnOk result (names.new ≡ names.old ++ name_in got.now) }
+    ensures { OnOk result (names.new ≡ names.old ++ names_of_got got.now) }
 {
     match got {
         Got::Message { source, start, .. } => {

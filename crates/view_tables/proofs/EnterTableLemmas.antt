@@ -14,7 +14,7 @@ use Rattle.run_model.specs.Communicators.{Entered, enter_at, entered_from, is_on
 use Rattle.run_model.specs.Views.{View, is_done, is_start, start_at, starts_of, view_of}
 use Rattle.run_model.proofs.Enters.{entered_from-split}
 use Rattle.run_model.proofs.Views.{test_cases, view_of-other, view_of-own}
-use Rattle.view_tables.specs.EnterTable.{AreEntersKnown, HaveSame, HaveSameFor, IsEnterTable, IsNoted, IsNotedFor, entered_by, enters_on, numbers_in, numbers_of, numbers_on}
+use Rattle.view_tables.specs.EnterTable.{AreEntersKnown, HaveSameNumbers, HaveSameFor, IsEnterTable, IsNumberAdded, IsNotedFor, entered_comm, enter_numbers_on, entered_numbers, table_numbers, numbers_on}
 use Rattle.view_tables.proofs.StartTableLemmas.{get_or-replicate}
 
 at_own : {A : Type 0} (comm : ℕ) (x y : A) → cond (nat_eq comm comm) x y ≡ x
@@ -23,7 +23,7 @@ at_own comm x y = (let t : (comm == comm) ≡ true = eq-eqb comm comm refl in rw
 at_other : {A : Type 0} (comm other : ℕ) (x y : A) → (comm == other) ≡ false → cond (nat_eq comm other) x y ≡ y
 at_other comm other x y h = rw h refl
 
-pub noted_as : (old new : List (ℕ × List ℕ)) (comm number : ℕ) (now : List ℕ) → now ≡ numbers_on old comm ++ number ∷ [] → ((q : ℕ) → lookup (nat_eq q) new ≡ cond (nat_eq comm q) (Some now) (lookup (nat_eq q) old)) → IsNoted old new comm number
+pub noted_as : (old new : List (ℕ × List ℕ)) (comm number : ℕ) (now : List ℕ) → now ≡ numbers_on old comm ++ number ∷ [] → ((q : ℕ) → lookup (nat_eq q) new ≡ cond (nat_eq comm q) (Some now) (lookup (nat_eq q) old)) → IsNumberAdded old new comm number
 noted_as old new comm number now is updates other =
     elim (test_cases (comm == other)) [
       | inl h ↦ (
@@ -57,17 +57,17 @@ at_default (x ∷ xs) zero d e h = refl
 at_default (x ∷ xs) (suc k) d e h = at_default xs k d e (omega (arith, h))
 
 -- the tables of all ranks after a note for one
-pub noted_for : (old : List (List (ℕ × List ℕ))) (was now : List (ℕ × List ℕ)) (rank comm number : ℕ) → rank < length old → was ≡ get_or old rank was → IsNoted was now comm number → IsNotedFor old (set old rank now) rank comm number
+pub noted_for : (old : List (List (ℕ × List ℕ))) (was now : List (ℕ × List ℕ)) (rank comm number : ℕ) → rank < length old → was ≡ get_or old rank was → IsNumberAdded was now comm number → IsNotedFor old (set old rank now) rank comm number
 noted_for old was now rank comm number below at noted =
     let none : List (ℕ × List ℕ) = [] in
     let first : was ≡ get_or old rank none = at ∙ at_default old rank was none below in
-    let N : List (ℕ × List ℕ) → Type 0 = λ l. IsNoted l now comm number in
+    let N : List (ℕ × List ℕ) → Type 0 = λ l. IsNumberAdded l now comm number in
     let is = subst N first noted in
     record {
       as_many = length-set old rank now;
       each = λ r other. elim (test_cases (rank == r)) [
         | inl h ↦ (
-            let P : ℕ → Type 0 = λ k. numbers_of (set old rank now) k other ≡ (if comm == other then numbers_of old k other ++ number ∷ [] else numbers_of old k other) in
+            let P : ℕ → Type 0 = λ k. table_numbers (set old rank now) k other ≡ (if comm == other then table_numbers old k other ++ number ∷ [] else table_numbers old k other) in
             let own : P rank = rw (get_or-set_same old rank now [] below) (is other) in
             rw h (subst P (eqb-true rank r h) own))
         | inr h ↦ (
@@ -76,17 +76,17 @@ noted_for old was now rank comm number below at noted =
       ];
     }
 
-pub same_for : (old : List (List (ℕ × List ℕ))) (was now : List (ℕ × List ℕ)) (rank : ℕ) → rank < length old → was ≡ get_or old rank was → HaveSame was now → HaveSameFor old (set old rank now)
+pub same_for : (old : List (List (ℕ × List ℕ))) (was now : List (ℕ × List ℕ)) (rank : ℕ) → rank < length old → was ≡ get_or old rank was → HaveSameNumbers was now → HaveSameFor old (set old rank now)
 same_for old was now rank below at same =
     let none : List (ℕ × List ℕ) = [] in
     let first : was ≡ get_or old rank none = at ∙ at_default old rank was none below in
-    let N : List (ℕ × List ℕ) → Type 0 = λ l. HaveSame l now in
+    let N : List (ℕ × List ℕ) → Type 0 = λ l. HaveSameNumbers l now in
     let is = subst N first same in
     record {
       as_many = length-set old rank now;
       each = λ r other. elim (test_cases (rank == r)) [
         | inl h ↦ (
-            let P : ℕ → Type 0 = λ k. numbers_of (set old rank now) k other ≡ numbers_of old k other in
+            let P : ℕ → Type 0 = λ k. table_numbers (set old rank now) k other ≡ table_numbers old k other in
             let own : P rank = rw (get_or-set_same old rank now [] below) (is other) in
             subst P (eqb-true rank r h) own)
         | inr h ↦ (
@@ -96,7 +96,7 @@ same_for old was now rank below at same =
     }
 
 -- what one more event adds to the Enters of a view
-tail_none : (comm number : ℕ) (known : Option (List ℕ)) (call : Call) (reply : Reply) → entered_by call reply ≡ None → entered_from comm number known ((call, reply) ∷ []) ≡ []
+tail_none : (comm number : ℕ) (known : Option (List ℕ)) (call : Call) (reply : Reply) → entered_comm call reply ≡ None → entered_from comm number known ((call, reply) ∷ []) ≡ []
 tail_none comm number known (Send on dest tag ints sync) reply e = elim (test_cases (is_done reply)) [ inl h ↦ rw h refl | inr h ↦ rw h refl ]
 tail_none comm number known (Post on source tag room) reply e = elim (test_cases (is_done reply)) [ inl h ↦ rw h refl | inr h ↦ rw h refl ]
 tail_none comm number known (Enter on kind root op count ints) Done e = absurd (cc)
@@ -110,10 +110,10 @@ tail_none comm number known (Abort code) reply e = refl
 tail_none comm number known (Trap fault) reply e = refl
 tail_none comm number known End reply e = refl
 
-tail_some : (comm number on : ℕ) (known : Option (List ℕ)) (call : Call) (reply : Reply) → entered_by call reply ≡ Some on → numbers_in (entered_from comm number known ((call, reply) ∷ [])) ≡ (if on == comm then number ∷ [] else [])
+tail_some : (comm number on : ℕ) (known : Option (List ℕ)) (call : Call) (reply : Reply) → entered_comm call reply ≡ Some on → entered_numbers (entered_from comm number known ((call, reply) ∷ [])) ≡ (if on == comm then number ∷ [] else [])
 tail_some comm number on known (Enter c kind root op count ints) Done e =
     let same : c ≡ on = cc in
-    let P : ℕ → Type 0 = λ x. numbers_in (entered_from comm number known ((Enter c kind root op count ints, Done) ∷ [])) ≡ (if x == comm then number ∷ [] else []) in
+    let P : ℕ → Type 0 = λ x. entered_numbers (entered_from comm number known ((Enter c kind root op count ints, Done) ∷ [])) ≡ (if x == comm then number ∷ [] else []) in
     subst P same (elim (test_cases (c == comm)) [ inl h ↦ rw h refl | inr h ↦ rw h refl ])
 tail_some comm number on known (Enter c kind root op count ints) (Took items) e = absurd (cc)
 tail_some comm number on known (Enter c kind root op count ints) NotYet e = absurd (cc)
@@ -127,26 +127,26 @@ tail_some comm number on known (Abort code) reply e = absurd (cc)
 tail_some comm number on known (Trap fault) reply e = absurd (cc)
 tail_some comm number on known End reply e = absurd (cc)
 
-numbers_append : (xs ys : List Entered) → numbers_in (xs ++ ys) ≡ numbers_in xs ++ numbers_in ys
+numbers_append : (xs ys : List Entered) → entered_numbers (xs ++ ys) ≡ entered_numbers xs ++ entered_numbers ys
 numbers_append [] ys = refl
 numbers_append (x ∷ xs) ys = ap (λ l. x.number ∷ l) (numbers_append xs ys)
 
-enters_split : (n : ℕ) (own : View) (call : Call) (reply : Reply) (comm : ℕ) → enters_on n (own ++ (call, reply) ∷ []) comm ≡ enters_on n own comm ++ numbers_in (entered_from comm (length (starts_of own)) (known_in n own comm) ((call, reply) ∷ []))
+enters_split : (n : ℕ) (own : View) (call : Call) (reply : Reply) (comm : ℕ) → enter_numbers_on n (own ++ (call, reply) ∷ []) comm ≡ enter_numbers_on n own comm ++ entered_numbers (entered_from comm (length (starts_of own)) (known_in n own comm) ((call, reply) ∷ []))
 enters_split n own call reply comm =
     let from : 0 + length (starts_of own) ≡ length (starts_of own) = omega arith in
     rw (← from)
-    (ap numbers_in (entered_from-split comm 0 (known_first n comm) own ((call, reply) ∷ []))
+    (ap entered_numbers (entered_from-split comm 0 (known_first n comm) own ((call, reply) ∷ []))
     ∙ numbers_append (entered_from comm 0 (known_first n comm) own) (entered_from comm (0 + length (starts_of own)) (known_in n own comm) ((call, reply) ∷ [])))
 
-enters_none : (n : ℕ) (own : View) (call : Call) (reply : Reply) (comm : ℕ) → entered_by call reply ≡ None → enters_on n (own ++ (call, reply) ∷ []) comm ≡ enters_on n own comm
+enters_none : (n : ℕ) (own : View) (call : Call) (reply : Reply) (comm : ℕ) → entered_comm call reply ≡ None → enter_numbers_on n (own ++ (call, reply) ∷ []) comm ≡ enter_numbers_on n own comm
 enters_none n own call reply comm e =
     enters_split n own call reply comm
     ∙ rw (tail_none comm (length (starts_of own)) (known_in n own comm) call reply e, append-nil) refl
 
-enters_some : (n : ℕ) (own : View) (call : Call) (reply : Reply) (on comm : ℕ) → entered_by call reply ≡ Some on → enters_on n (own ++ (call, reply) ∷ []) comm ≡ (if on == comm then enters_on n own comm ++ length (starts_of own) ∷ [] else enters_on n own comm)
+enters_some : (n : ℕ) (own : View) (call : Call) (reply : Reply) (on comm : ℕ) → entered_comm call reply ≡ Some on → enter_numbers_on n (own ++ (call, reply) ∷ []) comm ≡ (if on == comm then enter_numbers_on n own comm ++ length (starts_of own) ∷ [] else enter_numbers_on n own comm)
 enters_some n own call reply on comm e =
     enters_split n own call reply comm
-    ∙ ap (λ l. enters_on n own comm ++ l) (tail_some comm (length (starts_of own)) on (known_in n own comm) call reply e)
+    ∙ ap (λ l. enter_numbers_on n own comm ++ l) (tail_some comm (length (starts_of own)) on (known_in n own comm) call reply e)
     ∙ elim (test_cases (on == comm)) [ inl h ↦ rw h refl | inr h ↦ rw (h, append-nil) refl ]
 
 -- the table of all ranks without events
@@ -160,13 +160,13 @@ IsEnterTable-new n =
     }
 
 -- one more event that is no Enter
-pub IsEnterTable-kept : (n : ℕ) (events : List Event) (event : Event) (table : List (List (ℕ × List ℕ))) → entered_by event.call event.reply ≡ None → IsEnterTable n events table → IsEnterTable n (events ++ event ∷ []) table
+pub IsEnterTable-kept : (n : ℕ) (events : List Event) (event : Event) (table : List (List (ℕ × List ℕ))) → entered_comm event.call event.reply ≡ None → IsEnterTable n events table → IsEnterTable n (events ++ event ∷ []) table
 IsEnterTable-kept n events event table none is =
     record {
       as_many = is.as_many;
       each = λ rank comm. is.each rank comm ∙ elim (test_cases (event.rank == rank)) [
         | inl h ↦ (
-            let P : ℕ → Type 0 = λ r. enters_on n (view_of events r) comm ≡ enters_on n (view_of (events ++ event ∷ []) r) comm in
+            let P : ℕ → Type 0 = λ r. enter_numbers_on n (view_of events r) comm ≡ enter_numbers_on n (view_of (events ++ event ∷ []) r) comm in
             let own : P event.rank = rw (view_of-own events event) (sym (enters_none n (view_of events event.rank) event.call event.reply comm none)) in
             subst P (eqb-true event.rank rank h) own)
         | inr h ↦ rw (view_of-other events event rank h) refl
@@ -174,14 +174,14 @@ IsEnterTable-kept n events event table none is =
     }
 
 -- one more Enter
-pub IsEnterTable-after : (n : ℕ) (events : List Event) (event : Event) (on : ℕ) (old new : List (List (ℕ × List ℕ))) → entered_by event.call event.reply ≡ Some on → IsNotedFor old new event.rank on (length (starts_of (view_of events event.rank))) → IsEnterTable n events old → IsEnterTable n (events ++ event ∷ []) new
+pub IsEnterTable-after : (n : ℕ) (events : List Event) (event : Event) (on : ℕ) (old new : List (List (ℕ × List ℕ))) → entered_comm event.call event.reply ≡ Some on → IsNotedFor old new event.rank on (length (starts_of (view_of events event.rank))) → IsEnterTable n events old → IsEnterTable n (events ++ event ∷ []) new
 IsEnterTable-after n events event on old new some noted is =
     record {
       as_many = noted.as_many ∙ is.as_many;
       each = λ rank comm. noted.each rank comm ∙ elim (test_cases (event.rank == rank)) [
         | inl h ↦ (
             let number : ℕ = length (starts_of (view_of events event.rank)) in
-            let P : ℕ → Type 0 = λ r. (if on == comm then numbers_of old r comm ++ number ∷ [] else numbers_of old r comm) ≡ enters_on n (view_of (events ++ event ∷ []) r) comm in
+            let P : ℕ → Type 0 = λ r. (if on == comm then table_numbers old r comm ++ number ∷ [] else table_numbers old r comm) ≡ enter_numbers_on n (view_of (events ++ event ∷ []) r) comm in
             let own : P event.rank = rw (view_of-own events event, is.each event.rank comm) (sym (enters_some n (view_of events event.rank) event.call event.reply on comm some)) in
             rw h (subst P (eqb-true event.rank rank h) own))
         | inr h ↦ rw (h, view_of-other events event rank h) (is.each rank comm)
@@ -243,23 +243,23 @@ among_starts comm from known ((call, reply) ∷ own) (suc instance) one h =
           record { place = among.place; number = among.number; call = rw t among.call; enter = among.enter })
     ]
 
-numbers_none : (xs : List Entered) (k : ℕ) → None ≡ slice_get (numbers_in xs) k → None ≡ slice_get xs k
+numbers_none : (xs : List Entered) (k : ℕ) → None ≡ slice_get (entered_numbers xs) k → None ≡ slice_get xs k
 numbers_none [] k h = refl
 numbers_none (x ∷ xs) zero h = absurd (cc)
 numbers_none (x ∷ xs) (suc k) h = numbers_none xs k h
 
-numbers_some : (xs : List Entered) (k number : ℕ) → Some number ≡ slice_get (numbers_in xs) k → (one : Entered) × (slice_get xs k ≡ Some one) × (one.number ≡ number)
+numbers_some : (xs : List Entered) (k number : ℕ) → Some number ≡ slice_get (entered_numbers xs) k → (one : Entered) × (slice_get xs k ≡ Some one) × (one.number ≡ number)
 numbers_some [] k number h = absurd (cc)
 numbers_some (x ∷ xs) zero number h = (x, refl, (let same : number ≡ x.number = cc in sym same))
 numbers_some (x ∷ xs) (suc k) number h = numbers_some xs k number h
 
 -- what the table tells of an Enter
-pub enter_absent : (n : ℕ) (events : List Event) (table : List (List (ℕ × List ℕ))) (rank comm instance : ℕ) → IsEnterTable n events table → None ≡ slice_get (numbers_of table rank comm) instance → None ≡ enter_at n (view_of events rank) comm instance
+pub enter_absent : (n : ℕ) (events : List Event) (table : List (List (ℕ × List ℕ))) (rank comm instance : ℕ) → IsEnterTable n events table → None ≡ slice_get (table_numbers table rank comm) instance → None ≡ enter_at n (view_of events rank) comm instance
 enter_absent n events table rank comm instance is none =
     numbers_none (entered_from comm 0 (known_first n comm) (view_of events rank)) instance
     (none ∙ ap (λ l. slice_get l instance) (is.each rank comm))
 
-no_numbers : (table : List (List (ℕ × List ℕ))) (rank comm instance number : ℕ) → Some number ≡ slice_get (numbers_of table rank comm) instance → rank < length table
+no_numbers : (table : List (List (ℕ × List ℕ))) (rank comm instance number : ℕ) → Some number ≡ slice_get (table_numbers table rank comm) instance → rank < length table
 no_numbers [] rank comm instance number h = absurd (cc)
 no_numbers (x ∷ table) zero comm instance number h = omega arith
 no_numbers (x ∷ table) (suc rank) comm instance number h = (let rest = no_numbers table rank comm instance number h in omega (arith, rest))
@@ -273,7 +273,7 @@ pub record IsFound (n : ℕ) (events : List Event) (rank comm instance number : 
   pub enter : is_enter one.call ≡ true
   pub members : one.members ≡ known_in n (view_of events rank) comm
 
-pub enter_found : (n : ℕ) (events : List Event) (table : List (List (ℕ × List ℕ))) (rank comm instance number : ℕ) → AreEntersKnown n events → IsEnterTable n events table → Some number ≡ slice_get (numbers_of table rank comm) instance → IsFound n events rank comm instance number
+pub enter_found : (n : ℕ) (events : List Event) (table : List (List (ℕ × List ℕ))) (rank comm instance number : ℕ) → AreEntersKnown n events → IsEnterTable n events table → Some number ≡ slice_get (table_numbers table rank comm) instance → IsFound n events rank comm instance number
 enter_found n events table rank comm instance number known is some =
     let own : View = view_of events rank in
     let found = numbers_some (entered_from comm 0 (known_first n comm) own) instance number (some ∙ ap (λ l. slice_get l instance) (is.each rank comm)) in

@@ -15,8 +15,8 @@ use Rattle.run_model.specs.Shape.{can_take, gots_fit, has_count, has_shape, rise
 use Rattle.run_model.specs.Views.{View, is_start, items_taken, start_at, starts_of, taken_of, view_of}
 use Rattle.run_model.proofs.StartLemmas.{slice_get-append, slice_get-below, slice_get-last, slice_get-push, starts_of-append}
 use Rattle.run_model.proofs.Views.{length-view_of, option_cases, test_cases, view_of-other, view_of-own}
-use Rattle.view_tables.specs.declared.start_table.Start.{Start}
-use Rattle.view_tables.specs.StartTable.{AreStarts, IsStart, IsStartTable, TakesMade, starts_after, with_all_taken, with_taken}
+use Rattle.view_tables.specs.declared.start_table.StartRow.{StartRow}
+use Rattle.view_tables.specs.StartTable.{AreStarts, IsStartRow, IsStartTable, TakesMade, starts_after, with_all_taken, with_start_taken}
 
 pub replicate_more : {A : Type 0} (n : ℕ) (x : A) → replicate (n + 1) x ≡ replicate n x ++ x ∷ []
 replicate_more n x = (let one : n + 1 ≡ suc n = omega arith in ap (λ (k : ℕ). replicate k x) one ∙ more n x)
@@ -47,29 +47,29 @@ or_swap false true = refl
 or_swap false false = refl
 
 -- marking one start, as a write at its place
-pub with_taken-at : (starts : List Start) (number : ℕ) (start : Start) → number < length starts → start ≡ get_or starts number start → set starts number (record start { taken = true }) ≡ with_taken starts number
+pub with_taken-at : (starts : List StartRow) (number : ℕ) (start : StartRow) → number < length starts → start ≡ get_or starts number start → set starts number (record start { taken = true }) ≡ with_start_taken starts number
 with_taken-at [] number start below is = absurd (omega (arith, below))
-with_taken-at (first ∷ starts) zero start below is = ap (λ (s : Start). (record s { taken = true }) ∷ starts) is
+with_taken-at (first ∷ starts) zero start below is = ap (λ (s : StartRow). (record s { taken = true }) ∷ starts) is
 with_taken-at (first ∷ starts) (suc number) start below is =
     ap (λ rest. first ∷ rest) (with_taken-at starts number start (omega (arith, below)) is)
 
-pub with_taken-past : (starts : List Start) (number : ℕ) → length starts ≤ number → with_taken starts number ≡ starts
+pub with_taken-past : (starts : List StartRow) (number : ℕ) → length starts ≤ number → with_start_taken starts number ≡ starts
 with_taken-past [] number past = refl
 with_taken-past (first ∷ starts) zero past = absurd (omega (arith, past))
 with_taken-past (first ∷ starts) (suc number) past = ap (λ rest. first ∷ rest) (with_taken-past starts number (omega (arith, past)))
 
-length-with_taken : (starts : List Start) (number : ℕ) → length (with_taken starts number) ≡ length starts
+length-with_taken : (starts : List StartRow) (number : ℕ) → length (with_start_taken starts number) ≡ length starts
 length-with_taken [] number = refl
 length-with_taken (first ∷ starts) zero = refl
 length-with_taken (first ∷ starts) (suc number) = ap suc (length-with_taken starts number)
 
-length-with_all_taken : (starts : List Start) (numbers : List ℕ) → length (with_all_taken starts numbers) ≡ length starts
+length-with_all_taken : (starts : List StartRow) (numbers : List ℕ) → length (with_all_taken starts numbers) ≡ length starts
 length-with_all_taken starts [] = refl
-length-with_all_taken starts (number ∷ numbers) = length-with_all_taken (with_taken starts number) numbers ∙ length-with_taken starts number
+length-with_all_taken starts (number ∷ numbers) = length-with_all_taken (with_start_taken starts number) numbers ∙ length-with_taken starts number
 
 -- a start before it was marked, or not
-record IsMarked (starts : List Start) (k : ℕ) (start : Start) (now : Bool) : Type 0 where
-  pub old : Start
+record IsMarked (starts : List StartRow) (k : ℕ) (start : StartRow) (now : Bool) : Type 0 where
+  pub old : StartRow
   pub there : slice_get starts k ≡ Some old
   pub at : start.at ≡ old.at
   pub taken : start.taken ≡ (now || old.taken)
@@ -81,12 +81,12 @@ eqb-suc a b =
       | inr h ↦ rw h (ne_eqb (suc a) (suc b) (λ e. let no : (a == b) ≡ true = eq-eqb a b (omega (arith, e)) in cc))
     ]
 
-with_taken-back : (starts : List Start) (number k : ℕ) (start : Start) → slice_get (with_taken starts number) k ≡ Some start → IsMarked starts k start (number == k)
+with_taken-back : (starts : List StartRow) (number k : ℕ) (start : StartRow) → slice_get (with_start_taken starts number) k ≡ Some start → IsMarked starts k start (number == k)
 with_taken-back [] number k start h = absurd (cc)
 with_taken-back (first ∷ starts) zero zero start h =
-    let marked : Start = record first { taken = true } in
+    let marked : StartRow = record first { taken = true } in
     let same : marked ≡ start = cc in
-    record { old = first; there = refl; at = ap (λ (s : Start). s.at) (sym same); taken = ap (λ (s : Start). s.taken) (sym same) }
+    record { old = first; there = refl; at = ap (λ (s : StartRow). s.at) (sym same); taken = ap (λ (s : StartRow). s.taken) (sym same) }
 with_taken-back (first ∷ starts) zero (suc k) start h =
     let apart : (zero == suc k) ≡ false = ne_eqb zero (suc k) (λ e. omega (arith, e)) in
     record { old = start; there = h; at = refl; taken = rw apart refl }
@@ -102,10 +102,10 @@ or_turn true true c = refl
 or_turn true false c = refl
 or_turn false b c = refl
 
-with_all_taken-back : (starts : List Start) (numbers : List ℕ) (k : ℕ) (start : Start) → slice_get (with_all_taken starts numbers) k ≡ Some start → IsMarked starts k start (is_member numbers k)
+with_all_taken-back : (starts : List StartRow) (numbers : List ℕ) (k : ℕ) (start : StartRow) → slice_get (with_all_taken starts numbers) k ≡ Some start → IsMarked starts k start (is_member numbers k)
 with_all_taken-back starts [] k start h = record { old = start; there = h; at = refl; taken = refl }
 with_all_taken-back starts (number ∷ numbers) k start h =
-    let later = with_all_taken-back (with_taken starts number) numbers k start h in
+    let later = with_all_taken-back (with_start_taken starts number) numbers k start h in
     let first = with_taken-back starts number k later.old later.there in
     record {
       old = first.old;
@@ -134,7 +134,7 @@ taken_of-append ((call, Peeked source start tag count) ∷ xs) ys = taken_of-app
 taken_of-append ((call, Stopped halt) ∷ xs) ys = taken_of-append xs ys
 
 -- a start of before stays
-IsStart-kept : (events : List Event) (event : Event) (own more : View) (k : ℕ) (start : Start) → taken_of more ≡ [] → IsStart events own k start → IsStart (events ++ event ∷ []) (own ++ more) k start
+IsStart-kept : (events : List Event) (event : Event) (own more : View) (k : ℕ) (start : StartRow) → taken_of more ≡ [] → IsStartRow events own k start → IsStartRow (events ++ event ∷ []) (own ++ more) k start
 IsStart-kept events event own more k start none is =
     let same : taken_of (own ++ more) ≡ taken_of own = taken_of-append own more ∙ rw (none, append-nil) refl in
     record {
@@ -152,12 +152,12 @@ done_takes_none call (Peeked source start tag count) h = refl
 done_takes_none call (Stopped halt) h = refl
 
 -- a start is added
-added : (events : List Event) (event : Event) (own : View) (starts : List Start) → is_start (event.call, event.reply) ≡ true → AreStarts events own starts → AreStarts (events ++ event ∷ []) (own ++ (event.call, event.reply) ∷ []) (starts ++ (record { at = length events; taken = false }) ∷ [])
+added : (events : List Event) (event : Event) (own : View) (starts : List StartRow) → is_start (event.call, event.reply) ≡ true → AreStarts events own starts → AreStarts (events ++ event ∷ []) (own ++ (event.call, event.reply) ∷ []) (starts ++ (record { at = length events; taken = false }) ∷ [])
 added events event own starts is are =
     let seen : View = (event.call, event.reply) ∷ [] in
     let none : taken_of seen ≡ [] = done_takes_none event.call event.reply is in
     let one : starts_of seen ≡ event.call ∷ [] = rw is refl in
-    let new : Start = record { at = length events; taken = false } in
+    let new : StartRow = record { at = length events; taken = false } in
     let same : taken_of (own ++ seen) ≡ taken_of own = taken_of-append own seen ∙ rw (none, append-nil) refl in
     let many = are.as_many in
     record {
@@ -168,7 +168,7 @@ added events event own starts is are =
             let here : slice_get (starts ++ new ∷ []) (length starts) ≡ Some start = rw e at h in
             let some : Some new ≡ Some start = sym (slice_get-last starts new) ∙ here in
             let is_new : new ≡ start = cc in
-            let F : Start → Type 0 = λ s. IsStart (events ++ event ∷ []) (own ++ seen) k s in
+            let F : StartRow → Type 0 = λ s. IsStartRow (events ++ event ∷ []) (own ++ seen) k s in
             let untaken : is_member (taken_of own) k ≡ false = elim (test_cases (is_member (taken_of own) k)) [
               | inl t ↦ (let low = are.made k t in absurd (omega (arith, low, e)))
               | inr t ↦ t
@@ -184,7 +184,7 @@ added events event own starts is are =
     }
 
 -- starts are taken
-marked : (events : List Event) (event : Event) (own : View) (starts : List Start) → is_start (event.call, event.reply) ≡ false → TakesMade own event.call event.reply → AreStarts events own starts → AreStarts (events ++ event ∷ []) (own ++ (event.call, event.reply) ∷ []) (with_all_taken starts (taken_of ((event.call, event.reply) ∷ [])))
+marked : (events : List Event) (event : Event) (own : View) (starts : List StartRow) → is_start (event.call, event.reply) ≡ false → TakesMade own event.call event.reply → AreStarts events own starts → AreStarts (events ++ event ∷ []) (own ++ (event.call, event.reply) ∷ []) (with_all_taken starts (taken_of ((event.call, event.reply) ∷ [])))
 marked events event own starts is made are =
     let seen : View = (event.call, event.reply) ∷ [] in
     let none : starts_of seen ≡ [] = rw is refl in
@@ -217,7 +217,7 @@ marked events event own starts is made are =
     }
 
 -- the starts of the rank after one more event of it
-pub AreStarts-after : (events : List Event) (event : Event) (own : View) (starts : List Start) → TakesMade own event.call event.reply → AreStarts events own starts → AreStarts (events ++ event ∷ []) (own ++ (event.call, event.reply) ∷ []) (starts_after starts (length events) event.call event.reply)
+pub AreStarts-after : (events : List Event) (event : Event) (own : View) (starts : List StartRow) → TakesMade own event.call event.reply → AreStarts events own starts → AreStarts (events ++ event ∷ []) (own ++ (event.call, event.reply) ∷ []) (starts_after starts (length events) event.call event.reply)
 AreStarts-after events event own starts made are =
     elim (test_cases (is_start (event.call, event.reply))) [
       | inl h ↦ rw h (added events event own starts h are)
@@ -225,7 +225,7 @@ AreStarts-after events event own starts made are =
     ]
 
 -- and after one more of another
-pub AreStarts-kept : (events : List Event) (event : Event) (own : View) (starts : List Start) → AreStarts events own starts → AreStarts (events ++ event ∷ []) own starts
+pub AreStarts-kept : (events : List Event) (event : Event) (own : View) (starts : List StartRow) → AreStarts events own starts → AreStarts (events ++ event ∷ []) own starts
 AreStarts-kept events event own starts are =
     let P : View → Type 0 = λ v. AreStarts (events ++ event ∷ []) v starts in
     subst P (append-nil own) (record {
@@ -240,8 +240,8 @@ IsStartTable-new n =
     record {
       as_many = length-replicate n [];
       each = λ rank.
-          let none : List Start = [] in
-          let P : List Start → Type 0 = λ starts. AreStarts [] [] starts in
+          let none : List StartRow = [] in
+          let P : List StartRow → Type 0 = λ starts. AreStarts [] [] starts in
           subst P (sym (get_or-replicate n rank none))
           (record {
             as_many = refl;
@@ -250,9 +250,9 @@ IsStartTable-new n =
           });
     }
 
-pub IsStartTable-after : (n : ℕ) (events : List Event) (event : Event) (table : List (List Start)) → event.rank < n → TakesMade (view_of events event.rank) event.call event.reply → IsStartTable n events table → IsStartTable n (events ++ event ∷ []) (set table event.rank (starts_after (get_or table event.rank []) (length events) event.call event.reply))
+pub IsStartTable-after : (n : ℕ) (events : List Event) (event : Event) (table : List (List StartRow)) → event.rank < n → TakesMade (view_of events event.rank) event.call event.reply → IsStartTable n events table → IsStartTable n (events ++ event ∷ []) (set table event.rank (starts_after (get_or table event.rank []) (length events) event.call event.reply))
 IsStartTable-after n events event table below made are =
-    let now : List Start = starts_after (get_or table event.rank []) (length events) event.call event.reply in
+    let now : List StartRow = starts_after (get_or table event.rank []) (length events) event.call event.reply in
     let many = are.as_many in
     let within : event.rank < length table = omega (arith, many, below) in
     record {
@@ -280,7 +280,7 @@ length-starts_of (seen ∷ own) =
       | inr h ↦ rw h (let rest = length-starts_of own in omega (arith, rest))
     ]
 
-pub few_starts : (n : ℕ) (events : List Event) (table : List (List Start)) (rank : ℕ) → IsStartTable n events table → length (get_or table rank []) ≤ length events
+pub few_starts : (n : ℕ) (events : List Event) (table : List (List StartRow)) (rank : ℕ) → IsStartTable n events table → length (get_or table rank []) ≤ length events
 few_starts n events table rank is =
     let many = (is.each rank).as_many in
     let own = length-starts_of (view_of events rank) in
@@ -288,19 +288,19 @@ few_starts n events table rank is =
     omega (arith, many, own, all)
 
 -- what the table tells of a start
-pub start_within : (events : List Event) (own : View) (starts : List Start) (k : ℕ) (start : Start) → AreStarts events own starts → Some start ≡ slice_get starts k → start.at < length events
+pub start_within : (events : List Event) (own : View) (starts : List StartRow) (k : ℕ) (start : StartRow) → AreStarts events own starts → Some start ≡ slice_get starts k → start.at < length events
 start_within events own starts k start are found =
     let is = are.each k start (sym found) in
     slice_get-below events start.at is.event is.at
 
-pub start_there : (events : List Event) (own : View) (starts : List Start) (k : ℕ) (start : Start) (event : Event) → AreStarts events own starts → Some start ≡ slice_get starts k → slice_get events start.at ≡ Some event → Some event.call ≡ start_at own k
+pub start_there : (events : List Event) (own : View) (starts : List StartRow) (k : ℕ) (start : StartRow) (event : Event) → AreStarts events own starts → Some start ≡ slice_get starts k → slice_get events start.at ≡ Some event → Some event.call ≡ start_at own k
 start_there events own starts k start event are found at =
     let is = are.each k start (sym found) in
     let some : Some event ≡ Some is.event = sym at ∙ is.at in
     let same : event ≡ is.event = cc in
     ap (λ (e : Event). Some e.call) same ∙ sym is.call
 
-pub start_absent : (events : List Event) (own : View) (starts : List Start) (k : ℕ) → AreStarts events own starts → None ≡ slice_get starts k → None ≡ start_at own k
+pub start_absent : (events : List Event) (own : View) (starts : List StartRow) (k : ℕ) → AreStarts events own starts → None ≡ slice_get starts k → None ≡ start_at own k
 start_absent events own starts k are none =
     elim (option_cases (start_at own k)) [
       | inl some ↦ (
@@ -312,10 +312,10 @@ start_absent events own starts k are none =
       | inr absent ↦ sym absent
     ]
 
-pub taken_there : (events : List Event) (own : View) (starts : List Start) (k : ℕ) (start : Start) → AreStarts events own starts → Some start ≡ slice_get starts k → start.taken ≡ is_member (taken_of own) k
+pub taken_there : (events : List Event) (own : View) (starts : List StartRow) (k : ℕ) (start : StartRow) → AreStarts events own starts → Some start ≡ slice_get starts k → start.taken ≡ is_member (taken_of own) k
 taken_there events own starts k start are found = (are.each k start (sym found)).taken
 
-pub taken_absent : (events : List Event) (own : View) (starts : List Start) (k : ℕ) → AreStarts events own starts → None ≡ slice_get starts k → false ≡ is_member (taken_of own) k
+pub taken_absent : (events : List Event) (own : View) (starts : List StartRow) (k : ℕ) → AreStarts events own starts → None ≡ slice_get starts k → false ≡ is_member (taken_of own) k
 taken_absent events own starts k are none =
     elim (test_cases (is_member (taken_of own) k)) [
       | inl t ↦ (let there = below_some starts k (are.made k t) in absurd (cc))

@@ -1,7 +1,8 @@
 //! The Enters of each rank.
 ghost use Rattle.std.specs.List.Sorted.{IsNonDecreasingBy};
 ghost use Rattle.std.specs.Prelude.{◌≡◌, ◌<◌, ℕ, ◌++◌, ◌∷◌, [], IfOk, OnErr, OnOk, length, replicate};
-ghost use Rattle.view_tables.specs.EnterTable.{HaveSame, HaveSameFor, IsNoted, IsNotedFor, count_below, numbers_of, numbers_on};
+ghost use Rattle.mpi_call.specs.Lists.{count_below};
+ghost use Rattle.view_tables.specs.EnterTable.{HaveSameNumbers, HaveSameFor, IsNumberAdded, IsNotedFor, table_numbers, numbers_on};
 
 use indexmap::IndexMap;
 use mpi_call::call::Comm;
@@ -45,8 +46,8 @@ impl Enters {
     }
 
     fn note(&mut self, comm: Comm, number: u32) -> Result<(), AllocError>
-        ensures ok { OnOk result (IsNoted self.old self.new comm number) }
-        ensures err { OnErr result (HaveSame self.old self.new) }
+        ensures ok { OnOk result (IsNumberAdded self.old self.new comm number) }
+        ensures err { OnErr result (HaveSameNumbers self.old self.new) }
     {
         if let Some(numbers) = self.numbers.get_mut(&comm) {
             return append(numbers, number);
@@ -102,7 +103,7 @@ impl EnterTable {
 
     /// The start numbers of a rank's Enters on a communicator, in order.
     pub fn get(&self, rank: u8, comm: Comm) -> &[u32]
-        ensures { result.now ≡ numbers_of self.now rank comm }
+        ensures { result.now ≡ table_numbers self.now rank comm }
     {
         match self.ranks.get(rank as usize) {
             Some(enters) => enters.get(comm),

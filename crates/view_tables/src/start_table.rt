@@ -2,7 +2,7 @@
 ghost use Rattle.std.specs.Prelude.{◌≡◌, ◌<◌, ◌-◌, ◌^◌, [], IfOk, OnErr, OnOk, length, replicate, slice_get, slice_index_or, slice_set, take};
 ghost use Rattle.mpi_call.specs.Calls.{listed_by};
 ghost use Rattle.run_model.specs.Views.{items_taken};
-ghost use Rattle.view_tables.specs.StartTable.{starts_after, with_all_taken, with_taken};
+ghost use Rattle.view_tables.specs.StartTable.{starts_after, with_all_taken, with_start_taken};
 
 use mpi_call::call::Call;
 use mpi_call::reply::{Item, Reply};
@@ -23,34 +23,34 @@ pub fn listed_by(call: &Call) -> &[u32]
 
 /// A start: the position of its event, and whether it was taken.
 #[derive(Clone, Copy)]
-pub struct Start {
+pub struct StartRow {
     pub at: u32,
     pub taken: bool,
 }
 
 /// The starts of one rank by number, which contracts see as a list.
 #[derive(Drop)]
-pub struct Starts {
-    values: Vec<Start>,
+pub struct RankStarts {
+    values: Vec<StartRow>,
 }
 
-impl Model for Starts {
+impl Model for RankStarts {
     ghost use Rattle.std.specs.Prelude.{List};
-    ghost use Rattle.view_tables.specs.declared.start_table.Start.{Start};
+    ghost use Rattle.view_tables.specs.declared.start_table.StartRow.{StartRow};
 
-    ghost Value = { List Start };
+    ghost Value = { List StartRow };
 
     ghost view = { λ s. s.values.items };
 }
 
-impl Starts {
+impl RankStarts {
     /// Marks what an event of the rank took, or adds its start. Out of memory, nothing has changed.
     fn note(&mut self, at: u32, call: &Call, reply: &Reply) -> Result<(), AllocError>
         ensures ok { OnOk result (self.new ≡ starts_after self.old at call.now reply.now) }
         ensures err { OnErr result (self.new ≡ self.old) }
     {
         if is_start(call, reply) {
-            self.values.push(Start { at, taken: false })?;
+            self.values.push(StartRow { at, taken: false })?;
             return Ok(());
         }
         if let Reply::Took(items) = reply {
@@ -79,7 +79,7 @@ impl Starts {
 
     /// Marks a start, where there is one with this number.
     fn take(&mut self, number: u32)
-        ensures { self.new ≡ with_taken self.old number }
+        ensures { self.new ≡ with_start_taken self.old number }
     {
         if (number as usize) < self.values.len() {
             self.values[number as usize].taken = true;
@@ -90,14 +90,14 @@ impl Starts {
 /// The starts of each rank, which contracts see as a list of lists.
 #[derive(Drop)]
 pub struct StartTable {
-    ranks: Vec<Starts>,
+    ranks: Vec<RankStarts>,
 }
 
 impl Model for StartTable {
     ghost use Rattle.std.specs.Prelude.{List};
-    ghost use Rattle.view_tables.specs.declared.start_table.Start.{Start};
+    ghost use Rattle.view_tables.specs.declared.start_table.StartRow.{StartRow};
 
-    ghost Value = { List (List Start) };
+    ghost Value = { List (List StartRow) };
 
     ghost view = { λ s. s.ranks.items };
 }
@@ -109,7 +109,7 @@ impl StartTable {
     {
         let mut table = Vec::new(alloc);
         for _ in 0..ranks {
-            let none = Starts {
+            let none = RankStarts {
                 values: Vec::new(alloc),
             };
             table.push(none)?;
@@ -118,7 +118,7 @@ impl StartTable {
     }
 
     /// The rank's start with this number.
-    pub fn get(&self, rank: u8, number: u32) -> Option<Start>
+    pub fn get(&self, rank: u8, number: u32) -> Option<StartRow>
         ensures { result ≡ slice_get (slice_index_or self.now rank []) number }
     {
         match self.ranks.get(rank as usize) {

@@ -2,7 +2,7 @@
 use Rattle.std.proofs.Common.{◌≡◌, ◌≤◌, ◌<◌, ◌∙◌, ◌+◌, ◌++◌, ◌∷◌, ◌==◌, ◌||◌, [], ℕ, zero, suc, List, Option, Some, true, false, inl, inr, ap, arith, length, length-append, nat_lt, refl, subst, sym}
 use Rattle.std.proofs.lemmas.Bool.{and_parts, cases_order, eq-eqb, eqb-true, lt-ltb, ltb-true, or_cases, or_left, or_parts, or_right}
 use Rattle.mpi_call.specs.Members.{is_distinct, is_member}
-use Rattle.wait_graph.proofs.FewRanks.{few_ranks}
+use Rattle.run_model.proofs.FewRanks.{few_ranks}
 use Rattle.run_model.specs.Lists.{are_below}
 use Rattle.run_model.proofs.MemberLists.{below_member}
 use Rattle.run_model.proofs.Views.{test_cases}

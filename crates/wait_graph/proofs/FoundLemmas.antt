@@ -5,16 +5,17 @@ use Rattle.std.proofs.lemmas.Bool.{and_parts, cases_order, eqb-true, lt-ltb, ltb
 use Rattle.mpi_call.specs.declared.call.Call.{Call}
 use Rattle.run_model.specs.declared.event.Event.{Event}
 use Rattle.std.proofs.lemmas.List.Elements.{recursion_from_All}
+use Rattle.run_model.specs.Due.{stops}
 use Rattle.causes.specs.Clocks.{AreOfRanks}
 use Rattle.run_model.specs.Lists.{are_below, world}
 use Rattle.run_model.specs.Views.{view_of}
 use Rattle.run_model.proofs.Views.{test_cases}
 use Rattle.wait_graph.specs.declared.graph.Blocked.{Blocked}
-use Rattle.wait_graph.specs.declared.stuck.Found.{Found}
+use Rattle.wait_graph.specs.declared.stuck.RankFinding.{RankFinding}
 use Rattle.wait_graph.specs.declared.wait.Wait.{Wait}
-use Rattle.wait_graph.specs.Found.{IsFound, IsFoundAt, listed_blocked}
-use Rattle.wait_graph.specs.Going.{first_call, going, halting, stopped_call, stops}
-use Rattle.wait_graph.specs.Graph.{blocked_at, blocked_in, cycles_in, graph_of, has_no_hope, is_hopeless, is_live, next_at, next_of, waits_for}
+use Rattle.wait_graph.specs.inside.Found.{IsRankFinding, IsFoundAt, listed_blocked}
+use Rattle.wait_graph.specs.Going.{first_call, going, halting, stopped_call}
+use Rattle.wait_graph.specs.Graph.{blocked_at, blocked_in, cycles_in, graph_of, has_no_hope, is_hopeless, is_live, next_at, waited_rank, waits_for}
 use Rattle.wait_graph.proofs.ReadLemmas.{AreBelow}
 use Rattle.wait_graph.specs.Waits.{waits_at}
 
@@ -56,11 +57,11 @@ found_at n G rank number call copied waits slice ranks next no_hope numbered sam
 -- the ranks so far
 pub record IsFoundSoFar (n : ℕ) (events : List Event) (ranks rest : List ℕ) (told : List Blocked) (nexts : List (Option ℕ)) (hopeless : List ℕ) : Type 0 where
   pub blocked : told ++ blocked_in n events rest ≡ blocked_in n events ranks
-  pub next : nexts ++ map (next_of n events) rest ≡ map (next_of n events) ranks
+  pub next : nexts ++ map (waited_rank n events) rest ≡ map (waited_rank n events) ranks
   pub vain : hopeless ++ filter (is_hopeless n events) rest ≡ filter (is_hopeless n events) ranks
 
-pub one_found : (n : ℕ) (events : List Event) (ranks rest : List ℕ) (blocked blocked' : List Blocked) (nexts nexts' : List (Option ℕ)) (hopeless hopeless' : List ℕ) (d : ℕ) (found : Found)
-    → IsFoundSoFar n events ranks rest blocked nexts hopeless → 1 ≤ length rest → IsFound n events (get_or rest 0 d) found
+pub one_found : (n : ℕ) (events : List Event) (ranks rest : List ℕ) (blocked blocked' : List Blocked) (nexts nexts' : List (Option ℕ)) (hopeless hopeless' : List ℕ) (d : ℕ) (found : RankFinding)
+    → IsFoundSoFar n events ranks rest blocked nexts hopeless → 1 ≤ length rest → IsRankFinding n events (get_or rest 0 d) found
     → blocked' ≡ blocked ++ listed_blocked found.blocked → nexts' ≡ nexts ++ found.next ∷ [] → hopeless' ≡ hopeless ++ (if found.is_hopeless then get_or rest 0 d ∷ [] else [])
     → IsFoundSoFar n events ranks (take (length rest - 1) (drop 1 rest)) blocked' nexts' hopeless'
 one_found n events ranks [] blocked blocked' nexts nexts' hopeless hopeless' d found so_far some is b x h = absurd (omega (arith, some))
@@ -69,7 +70,7 @@ one_found n events ranks (r ∷ rest) blocked blocked' nexts nexts' hopeless hop
     let F : List ℕ → Type 0 = λ l. IsFoundSoFar n events ranks l blocked' nexts' hopeless' in
     subst F (sym tail) (record {
       blocked = ap (λ l. l ++ blocked_in n events rest) (b ∙ ap (λ l. blocked ++ l) is.blocked) ∙ append_assoc blocked (blocked_at n (going events) r (stopped_call events r)) (blocked_in n events rest) ∙ so_far.blocked;
-      next = ap (λ l. l ++ map (next_of n events) rest) (x ∙ ap (λ o. nexts ++ o ∷ []) is.next) ∙ append_assoc nexts (next_of n events r ∷ []) (map (next_of n events) rest) ∙ so_far.next;
+      next = ap (λ l. l ++ map (waited_rank n events) rest) (x ∙ ap (λ o. nexts ++ o ∷ []) is.next) ∙ append_assoc nexts (waited_rank n events r ∷ []) (map (waited_rank n events) rest) ∙ so_far.next;
       vain = elim (test_cases (is_hopeless n events r)) [
         | inl t ↦ (
             let one : hopeless' ≡ hopeless ++ r ∷ [] = h ∙ rw (is.hopeless ∙ t) refl in
@@ -108,24 +109,24 @@ world-past f (suc count) from zero d high = absurd (omega (arith, high))
 world-past f (suc count) from (suc k) d high = world-past f count (from + 1) k d (omega (arith, high))
 
 -- the table of those that are waited for next
-pub table_is : (n : ℕ) (events : List Event) (nexts : List (Option ℕ)) → AreBelow n events → nexts ≡ map (next_of n events) (world n 0) → (rank : ℕ) → get_or nexts rank None ≡ next_of n events rank
+pub table_is : (n : ℕ) (events : List Event) (nexts : List (Option ℕ)) → AreBelow n events → nexts ≡ map (waited_rank n events) (world n 0) → (rank : ℕ) → get_or nexts rank None ≡ waited_rank n events rank
 table_is n events nexts below is rank =
-    let here : get_or nexts rank None ≡ get_or (map (next_of n events) (world n 0)) rank None = ap (λ l. get_or l rank None) is in
+    let here : get_or nexts rank None ≡ get_or (map (waited_rank n events) (world n 0)) rank None = ap (λ l. get_or l rank None) is in
     elim (cases_order rank n) [
-      | inl same ↦ here ∙ world-past (next_of n events) n 0 rank None (omega (arith, same)) ∙ sym (nobody n events rank below (omega (arith, same)))
+      | inl same ↦ here ∙ world-past (waited_rank n events) n 0 rank None (omega (arith, same)) ∙ sym (nobody n events rank below (omega (arith, same)))
       | inr apart ↦ elim apart [
-        | inl less ↦ here ∙ world-get (next_of n events) n 0 rank None less ∙ ap (next_of n events) (omega arith)
-        | inr more ↦ here ∙ world-past (next_of n events) n 0 rank None (omega (arith, more)) ∙ sym (nobody n events rank below (omega (arith, more)))
+        | inl less ↦ here ∙ world-get (waited_rank n events) n 0 rank None less ∙ ap (waited_rank n events) (omega arith)
+        | inr more ↦ here ∙ world-past (waited_rank n events) n 0 rank None (omega (arith, more)) ∙ sym (nobody n events rank below (omega (arith, more)))
       ]
     ]
   where
-    nobody : (n : ℕ) (events : List Event) (rank : ℕ) → AreBelow n events → n ≤ rank → next_of n events rank ≡ None
+    nobody : (n : ℕ) (events : List Event) (rank : ℕ) → AreBelow n events → n ≤ rank → waited_rank n events rank ≡ None
     nobody n events rank below above =
         let none : stopped_call events rank ≡ None = ap first_call (no_view n (halting events) rank (halting-below n events below) above) in
         ap (next_at n (going events) rank) none
 
 pub all_found : (n : ℕ) (events : List Event) (ranks rest : List ℕ) (blocked : List Blocked) (nexts : List (Option ℕ)) (hopeless : List ℕ) → IsFoundSoFar n events ranks rest blocked nexts hopeless → length rest < 1
-    → (blocked ≡ blocked_in n events ranks) × (nexts ≡ map (next_of n events) ranks) × (hopeless ≡ filter (is_hopeless n events) ranks)
+    → (blocked ≡ blocked_in n events ranks) × (nexts ≡ map (waited_rank n events) ranks) × (hopeless ≡ filter (is_hopeless n events) ranks)
 all_found n events ranks [] blocked nexts hopeless is none = (sym (append-nil blocked) ∙ is.blocked, sym (append-nil nexts) ∙ is.next, sym (append-nil hopeless) ∙ is.vain)
 all_found n events ranks (r ∷ rest) blocked nexts hopeless is none = absurd (omega (arith, none))
 
@@ -134,7 +135,7 @@ pub first_found : (n : ℕ) (events : List Event) (ranks : List ℕ) (blocked : 
 first_found n events ranks blocked nexts hopeless b x h =
     record {
       blocked = ap (λ l. l ++ blocked_in n events ranks) b;
-      next = ap (λ l. l ++ map (next_of n events) ranks) x;
+      next = ap (λ l. l ++ map (waited_rank n events) ranks) x;
       vain = ap (λ l. l ++ filter (is_hopeless n events) ranks) h;
     }
 
@@ -152,11 +153,11 @@ below_here n (r ∷ rest) d below some =
     (ltb-true r n parts.0, ap (are_below n) (tail-is r rest) ∙ parts.1)
 
 pub graph_is : (n : ℕ) (events : List Event) (ranks : List ℕ) (blocked : List Blocked) (nexts : List (Option ℕ)) (rounds : List (List ℕ)) (hopeless : List ℕ) → AreOfRanks n events → ranks ≡ world n 0
-    → blocked ≡ blocked_in n events ranks → nexts ≡ map (next_of n events) ranks → hopeless ≡ filter (is_hopeless n events) ranks
+    → blocked ≡ blocked_in n events ranks → nexts ≡ map (waited_rank n events) ranks → hopeless ≡ filter (is_hopeless n events) ranks
     → rounds ≡ cycles_in (λ rank. get_or nexts rank None) n ranks → (record { blocked = blocked; cycles = rounds; hopeless = hopeless }) ≡ graph_of n events
 graph_is n events ranks blocked nexts rounds hopeless below all b x h c =
-    let table : (λ rank. get_or nexts rank None) ≡ next_of n events = fun_ext (table_is n events nexts (recursion_from_All (λ (event : Event). event.rank < n) events below) (x ∙ ap (map (next_of n events)) all)) in
+    let table : (λ rank. get_or nexts rank None) ≡ waited_rank n events = fun_ext (table_is n events nexts (recursion_from_All (λ (event : Event). event.rank < n) events below) (x ∙ ap (map (waited_rank n events)) all)) in
     let one = b ∙ ap (blocked_in n events) all in
-    let two : rounds ≡ cycles_in (next_of n events) n (world n 0) = c ∙ ap (λ f. cycles_in f n ranks) table ∙ ap (cycles_in (next_of n events) n) all in
+    let two : rounds ≡ cycles_in (waited_rank n events) n (world n 0) = c ∙ ap (λ f. cycles_in f n ranks) table ∙ ap (cycles_in (waited_rank n events) n) all in
     let three = h ∙ ap (filter (is_hopeless n events)) all in
     cc

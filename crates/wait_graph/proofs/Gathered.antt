@@ -10,10 +10,10 @@ use Rattle.mpi_call.specs.declared.call.Tag.{Tag}
 use Rattle.mpi_call.specs.Calls.{ints_of}
 use Rattle.mpi_call.specs.Needs.{needs}
 use Rattle.run_model.specs.declared.event.Event.{Event}
-use Rattle.run_model.specs.Communicators.{Entered, enter_at, instance_of, members_in}
+use Rattle.run_model.specs.Communicators.{Entered, enter_at, instance_of, members_for_rank}
 use Rattle.run_model.specs.Inputs.{gather, is_gathered, push_ints, with_ints}
 use Rattle.run_model.specs.Readiness.{is_ready}
-use Rattle.run_model.specs.Views.{view_of}
+use Rattle.run_model.specs.Views.{moment_at, view_of}
 use Rattle.run_model.proofs.Views.{option_cases, test_cases}
 use Rattle.wait_graph.specs.declared.wait.Wait.{Wait}
 use Rattle.wait_graph.specs.Waits.{absent, awaited_by, waits_at}
@@ -49,11 +49,11 @@ gathered_none needed find (m ∷ members) =
     ]
 
 pub ready_if_none : (n : ℕ) (G : List Event) (me k : ℕ) (call : Call) (comm : ℕ) (kind : Kind) (root : Option ℕ) (op : Option Op) (count : ℕ) (ints : List ℤ) (ranks : List ℕ)
-    → call ≡ Enter comm kind root op count ints → ranks ≡ awaited_by n G me k call → (length ranks == 0) ≡ is_ready n G me (view_of G me) k (Some call)
+    → call ≡ Enter comm kind root op count ints → ranks ≡ awaited_by n G me k call → (length ranks == 0) ≡ is_ready (moment_at n G me) k (Some call)
 ready_if_none n G me k call comm kind root op count ints ranks is same =
-    let F : Call → Type 0 = λ c. (length (awaited_by n G me k c) == 0) ≡ is_ready n G me (view_of G me) k (Some c) in
+    let F : Call → Type 0 = λ c. (length (awaited_by n G me k c) == 0) ≡ is_ready (moment_at n G me) k (Some c) in
     let enter : Call = Enter comm kind root op count ints in
-    let base : F enter = gathered_none (needs enter (members_in n (view_of G me) comm) me) (λ m. enter_at n (view_of G m) comm (instance_of (view_of G me) k comm)) (members_in n (view_of G me) comm) in
+    let base : F enter = gathered_none (needs enter (members_for_rank n (view_of G me) comm) me) (λ m. enter_at n (view_of G m) comm (instance_of (view_of G me) k comm)) (members_for_rank n (view_of G me) comm) in
     ap (λ (l : List ℕ). length l == 0) same ∙ subst F (sym is) base
 
 pub probe_waits : (n : ℕ) (G : List Event) (me : ℕ) (call : Call) (comm : ℕ) (source : Source) (tag : Tag) (wait : Bool) (waits : List Wait) → call ≡ Peek comm source tag wait

@@ -11,19 +11,19 @@ use Rattle.mpi_call.specs.declared.reply.Item.{Item}
 use Rattle.mpi_call.specs.declared.reply.Reply.{Reply}
 use Rattle.mpi_call.specs.declared.reply.Reply.TheVariants.{Done, NotYet, Peeked, Stopped, Took}
 use Rattle.run_model.specs.declared.event.Event.{Event}
-use Rattle.run_model.specs.Allowed.{IsAllowed, IsAllowedBy, IsAnswer, IsHeld, IsPeekAnswer, IsStuck, IsTakeAnswer, first_long, flags_of, has_open, holds, taken_reply}
-use Rattle.run_model.specs.Due.{bad_request, due, halt_at, halt_in, halted, is_full, is_mismatched, or_else}
+use Rattle.run_model.specs.Allowed.{IsAllowed, IsAllowedBy, IsAnswer, IsHeld, IsPeekAnswer, IsStuck, IsTakeAnswer, first_long, flags_of, has_open, mode_holds, taken_reply, probe_of}
+use Rattle.run_model.specs.Due.{bad_request, due, halt_at, halt_of_reply, halted, is_full, is_mismatched, or_else, stops}
 use Rattle.run_model.specs.Lists.{Along}
 use Rattle.run_model.specs.Run.{IsEvent, IsRun}
 use Rattle.run_model.specs.Serial.{call_after}
 use Rattle.run_model.specs.Shape.{is_test}
-use Rattle.run_model.specs.Views.{Next, View, replies_in, view_of}
+use Rattle.run_model.specs.Views.{Next, View, moment_of, replies_in, view_of}
 use Rattle.run_model.proofs.Along.{Along-back}
 use Rattle.run_model.proofs.ChosenLaws.{cannot_go}
 use Rattle.run_model.proofs.Places.{place}
 use Rattle.run_model.proofs.RunLaws.{IsRun-event}
 use Rattle.run_model.proofs.Views.{option_cases, test_cases, view_of-append}
-use Rattle.wait_graph.specs.Going.{first_call, going, halting, stopped_call, stops}
+use Rattle.wait_graph.specs.Going.{first_call, going, halting, stopped_call}
 use Rattle.wait_graph.specs.Laws.{BlockedExactly, IsDead, IsEndedRun, StuckExactly}
 
 -- 1. the two parts
@@ -35,7 +35,7 @@ parts_are (event ∷ events) = elim (test_cases (stops event.reply)) [
   | inr t ↦ rw t (ap (λ l. event ∷ l) (parts_are events))
 ]
 
-unstopped : (reply : Reply) → stops reply ≡ false → halt_in reply ≡ None
+unstopped : (reply : Reply) → stops reply ≡ false → halt_of_reply reply ≡ None
 unstopped (Stopped halt) h = absurd (cc)
 unstopped Done h = refl
 unstopped NotYet h = refl
@@ -80,14 +80,14 @@ or_else-assoc (Some halt) b c = refl
 
 halted-append : (xs ys : List Event) → halted (xs ++ ys) ≡ or_else (halted xs) (halted ys)
 halted-append [] ys = refl
-halted-append (x ∷ xs) ys = ap (or_else (halt_in x.reply)) (halted-append xs ys) ∙ or_else-assoc (halt_in x.reply) (halted xs) (halted ys)
+halted-append (x ∷ xs) ys = ap (or_else (halt_of_reply x.reply)) (halted-append xs ys) ∙ or_else-assoc (halt_of_reply x.reply) (halted xs) (halted ys)
 
 halted-whole : (events : List Event) → halted events ≡ halted (halting events)
 halted-whole events = ap halted (sym (parts_are events)) ∙ halted-append (going events) (halting events) ∙ ap (λ h. or_else h (halted (halting events))) (halted-going events)
 
 -- a run is halted by its first stop
 halted_first : (events : List Event) (is : IsFirstStop events) → halted events ≡ Some is.halt
-halted_first events is = halted-whole events ∙ ap halted is.there ∙ ap (λ r. or_else (halt_in r) (halted is.rest)) is.by
+halted_first events is = halted-whole events ∙ ap halted is.there ∙ ap (λ r. or_else (halt_of_reply r) (halted is.rest)) is.by
 
 -- 2. who is told that no rank can go on
 
@@ -100,12 +100,12 @@ not_taken None items me reply is h = (let no : Took items ≡ Stopped Stuck = sy
 not_taken (Some k) items me reply is h = (let no : Stopped (Truncated me k) ≡ Stopped Stuck = sym is ∙ h in cc)
 
 take_gives : (condition : Bool) (stuck : Type 0) (n : ℕ) (before : List Event) (me : ℕ) (own : View) (starts : List ℕ) (mode : TakeMode) (reply : Reply)
-    → IsTakeAnswer condition stuck n before me own starts mode reply → reply ≡ Stopped Stuck → stuck
+    → IsTakeAnswer condition stuck (moment_of n before me own) starts mode reply → reply ≡ Stopped Stuck → stuck
 take_gives true stuck n before me own starts mode reply is h = absurd (not_taken (first_long own starts is.items) is.items me reply is.reply_is h)
 take_gives false stuck n before me own starts mode reply is h = held_gives (is_test mode) stuck reply is h
 
 peek_gives : (found : Bool) (stuck : Type 0) (before : List Event) (me comm : ℕ) (source : Source) (tag : Tag) (wait : Bool) (reply : Reply)
-    → IsPeekAnswer found stuck before me comm source tag wait reply → reply ≡ Stopped Stuck → stuck
+    → IsPeekAnswer found stuck before (probe_of me comm source tag) wait reply → reply ≡ Stopped Stuck → stuck
 peek_gives true stuck before me comm source tag wait reply is h = (let no : Peeked is.send.0 is.send.1 is.t (length is.ints) ≡ Stopped Stuck = sym is.reply_is ∙ h in absurd (cc))
 peek_gives false stuck before me comm source tag wait reply is h = held_gives (not wait) stuck reply is h
 
@@ -113,8 +113,8 @@ done_gives : (stuck : Type 0) (reply : Reply) → reply ≡ Done → reply ≡ S
 done_gives stuck reply is h = (let no : Done ≡ Stopped Stuck = sym is ∙ h in absurd (cc))
 
 answer_gives : (stuck : Type 0) (n : ℕ) (before : List Event) (me : ℕ) (own : View) (call : Call) (reply : Reply)
-    → IsAnswer stuck n before me own call reply → reply ≡ Stopped Stuck → stuck
-answer_gives stuck n before me own (Take starts mode) reply is h = take_gives (holds mode (flags_of n before me own starts)) stuck n before me own starts mode reply is h
+    → IsAnswer stuck (moment_of n before me own) call reply → reply ≡ Stopped Stuck → stuck
+answer_gives stuck n before me own (Take starts mode) reply is h = take_gives (mode_holds mode (flags_of (moment_of n before me own) starts)) stuck n before me own starts mode reply is h
 answer_gives stuck n before me own (Peek comm source tag wait) reply is h = peek_gives (has_open n before me comm source tag) stuck before me comm source tag wait reply is h
 answer_gives stuck n before me own (Send comm dest tag ints sync) reply is h = done_gives stuck reply is h
 answer_gives stuck n before me own (Post comm source tag room) reply is h = done_gives stuck reply is h
@@ -150,7 +150,7 @@ stuck_then : (next : Next) (n : ℕ) (before : List Event) (me : ℕ) (call : Ca
     → IsAllowed next n before me call reply → reply ≡ Stopped Stuck → IsStuck next n before
 stuck_then next n before me call reply none is h =
     let own : View = view_of before me in
-    let F : Option Halt → Type 0 = λ x. IsAllowedBy x (IsStuck next n before) n before me own call reply in
+    let F : Option Halt → Type 0 = λ x. IsAllowedBy x (IsStuck next n before) (moment_of n before me own) call reply in
     elim (option_cases (due n before me own call)) [
       | inl some ↦ (
           let stopped : reply ≡ Stopped some.0 = subst F some.1 is in
@@ -165,7 +165,7 @@ told : (next : Next) (n : ℕ) (before : List Event) (me : ℕ) (call : Call) (r
     → IsAllowed next n before me call reply → reply ≡ Stopped halt
 told next n before me call reply halt was is =
     let own : View = view_of before me in
-    let F : Option Halt → Type 0 = λ x. IsAllowedBy (or_else x (if is_full before then Some Limit else halt_at n before me own call)) (IsStuck next n before) n before me own call reply in
+    let F : Option Halt → Type 0 = λ x. IsAllowedBy (or_else x (if is_full before then Some Limit else halt_at n before me own call)) (IsStuck next n before) (moment_of n before me own) call reply in
     subst F was is
 
 -- 3. a run in which each rank has ended
@@ -280,7 +280,7 @@ module _ (next : Next) (n : ℕ) (events : List Event) (is : IsEndedRun next n e
               sym (ap (λ (x : Call × Reply). x.1) pair) ∙ reply_is)
           | inr t ↦ (
               let was : halted (G ++ first.event ∷ []) ≡ Some Stuck =
-              halted-append G (first.event ∷ []) ∙ ap (λ h. or_else h (halted (first.event ∷ []))) (halted-going events) ∙ ap (λ r. or_else (halt_in r) None) reply_is in
+              halted-append G (first.event ∷ []) ∙ ap (λ h. or_else h (halted (first.event ∷ []))) (halted-going events) ∙ ap (λ r. or_else (halt_of_reply r) None) reply_is in
               stopped_all (G ++ first.event ∷ []) first.rest Stuck rank call reply view was all.1 (rw t at here))
         ])
     | inr none ↦ (let no : [] ≡ (call, reply) ∷ view = sym (ap (λ l. view_of l rank) none) ∙ e in absurd (cc))

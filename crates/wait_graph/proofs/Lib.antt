@@ -8,7 +8,6 @@ mod ReadLemmas
 mod CycleLemmas
 mod FoundLemmas
 mod Halting
-mod FewRanks
 mod Cycles
 mod Reasons
 mod WorkedExamples

@@ -20,7 +20,7 @@ use Rattle.run_model.specs.Program.{AsksInBounds}
 use Rattle.run_model.specs.Readiness.{is_ready}
 use Rattle.run_model.specs.Run.{IsRun}
 use Rattle.run_model.specs.Serial.{call_after}
-use Rattle.run_model.specs.Views.{Next, View, is_done, is_start, start_at, starts_of, view_of}
+use Rattle.run_model.specs.Views.{Next, View, is_done, is_start, moment_at, start_at, starts_of, view_of}
 use Rattle.run_model.proofs.MemberLists.{AreMembers-world}
 use Rattle.run_model.proofs.RunLaws.{IsRun-front, Lawful, kept_run}
 use Rattle.run_model.proofs.Views.{option_cases, test_cases}
@@ -28,7 +28,7 @@ use Rattle.wait_graph.specs.declared.message.Open.{Open}
 use Rattle.wait_graph.specs.declared.wait.Wait.{Wait}
 use Rattle.wait_graph.specs.Going.{going, halting}
 use Rattle.wait_graph.specs.Laws.{DiffersFrom, IsDead, IsEndedRun, OpensDiffer}
-use Rattle.wait_graph.specs.Opens.{differences, first_open, listed_open, open_at, open_from, opens_of, opens_to, or_open}
+use Rattle.wait_graph.specs.Opens.{differences, first_open_send, listed_open, open_send, open_send_from, opens_of, opens_to, or_open}
 use Rattle.wait_graph.specs.Waits.{awaited_by, wait_at, waits_at, waits_in}
 use Rattle.wait_graph.proofs.FoundLemmas.{below_all}
 use Rattle.wait_graph.proofs.Fitting.{none_fits, none_found}
@@ -54,7 +54,7 @@ later G sender receiver start call calls found is =
     let same : suc start + is.k ≡ start + suc is.k = omega arith in
     record { k = suc is.k; ints = is.ints; sync = is.sync; there = is.there; rank = is.rank; number = is.number ∙ same; free = subst F same is.free }
 
-open_is : (G : List Event) (sender receiver start : ℕ) (calls : List Call) (found : Open) → open_from G sender receiver start calls ≡ Some found → IsOpenAt G sender receiver start calls found
+open_is : (G : List Event) (sender receiver start : ℕ) (calls : List Call) (found : Open) → open_send_from G sender receiver start calls ≡ Some found → IsOpenAt G sender receiver start calls found
 open_is G sender receiver start [] found h = absurd (cc)
 open_is G sender receiver start (Send comm dest tag ints sync ∷ calls) found h =
     let paired : Bool = is_some (partner_of (pairs_of G) (sender, start)) in
@@ -98,7 +98,7 @@ record IsOpenTo (n : ℕ) (G : List Event) (receiver : ℕ) (found : Open) : Typ
   sent : named G (found.name.rank, found.name.start) ≡ Some (Send found.comm receiver found.tag ints sync)
   free : partner_of (pairs_of G) (found.name.rank, found.name.start) ≡ None
 
-first_is : (n : ℕ) (G : List Event) (sender receiver : ℕ) (found : Open) → sender < n → first_open G sender receiver ≡ Some found → IsOpenTo n G receiver found
+first_is : (n : ℕ) (G : List Event) (sender receiver : ℕ) (found : Open) → sender < n → first_open_send G sender receiver ≡ Some found → IsOpenTo n G receiver found
 first_is n G sender receiver found below h =
     let is = open_is G sender receiver 0 (starts_of (view_of G sender)) found h in
     let number : found.name.start ≡ is.k = (let a = is.number in omega (arith, a)) in
@@ -121,7 +121,7 @@ listed_is : (n : ℕ) (G : List Event) (senders : List ℕ) (receiver : ℕ) (fo
 listed_is n G [] receiver found below among = absurd among
 listed_is n G (sender ∷ senders) receiver found below among =
     let parts = and_parts (nat_lt sender n) (are_below n senders) below in
-    elim (option_cases (first_open G sender receiver)) [
+    elim (option_cases (first_open_send G sender receiver)) [
       | inl some ↦ (
           let L : Option Open → Type 0 = λ o. IsIn found (listed_open o ++ opens_of G senders receiver) in
           elim (subst L some.1 among) [
@@ -137,7 +137,7 @@ listed_is n G (sender ∷ senders) receiver found below among =
 record IsUnready (n : ℕ) (G : List Event) (me : ℕ) (call : Call) : Type 0 where
   k : ℕ
   made : start_at (view_of G me) k ≡ Some call
-  unready : is_ready n G me (view_of G me) k (Some call) ≡ false
+  unready : is_ready (moment_at n G me) k (Some call) ≡ false
 
 wait_is : (n : ℕ) (G : List Event) (me : ℕ) (starts : List ℕ) (wait : Wait) → IsIn wait (waits_in n G me starts) → IsUnready n G me wait.call
 wait_is n G me [] wait among = absurd among
@@ -145,7 +145,7 @@ wait_is n G me (k ∷ starts) wait among = elim (option_cases (start_at (view_of
   | inl call ↦ (
       let L : Option Call → Type 0 = λ o. IsIn wait (wait_at n G me k o ++ waits_in n G me starts) in
       let here : IsIn wait (wait_at n G me k (Some call.0) ++ waits_in n G me starts) = subst L call.1 among in
-      elim (test_cases (is_ready n G me (view_of G me) k (Some call.0))) [
+      elim (test_cases (is_ready (moment_at n G me) k (Some call.0))) [
         | inl t ↦ wait_is n G me starts wait (rw t at here)
         | inr t ↦ (
             let one : IsIn wait ((record { start = Some k; call = call.0; awaited = awaited_by n G me k call.0 }) ∷ waits_in n G me starts) = rw t at here in
@@ -163,7 +163,7 @@ wait_is n G me (k ∷ starts) wait among = elim (option_cases (start_at (view_of
 ]
 
 -- a receive that is not ready is not paired
-unpaired : (n : ℕ) (G : List Event) (me k comm room : ℕ) (source : Source) (tag : Tag) → is_ready n G me (view_of G me) k (Some (Post comm source tag room)) ≡ false
+unpaired : (n : ℕ) (G : List Event) (me k comm room : ℕ) (source : Source) (tag : Tag) → is_ready (moment_at n G me) k (Some (Post comm source tag room)) ≡ false
     → partner_of (pairs_of G) (me, k) ≡ None
 unpaired n G me k comm room Any tag h = none_or (partner_of (pairs_of G) (me, k)) h
 unpaired n G me k comm room (From rank) tag h = none_or (partner_of (pairs_of G) (me, k)) h

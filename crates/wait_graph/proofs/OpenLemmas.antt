@@ -4,7 +4,7 @@ use Rattle.mpi_call.specs.declared.call.Call.{Call}
 use Rattle.run_model.specs.declared.event.Event.{Event}
 use Rattle.run_model.specs.Pairs.{pairs_of, partner_of}
 use Rattle.wait_graph.specs.declared.message.Open.{Open}
-use Rattle.wait_graph.specs.Opens.{first_open, listed_open, open_at, open_from, opens_of, or_open}
+use Rattle.wait_graph.specs.Opens.{first_open_send, listed_open, open_send, open_send_from, opens_of, or_open}
 
 drop-at : (calls : List Call) (k : ℕ) (call : Call) → slice_get calls k ≡ Some call → drop k calls ≡ call ∷ drop (suc k) calls
 drop-at [] k call h = absurd (cc)
@@ -25,26 +25,26 @@ take-none (suc k) (c ∷ calls) h = absurd (cc)
 module _ (G : List Event) (sender receiver : ℕ) (calls : List Call) where
   -- what is open among the starts from one number up to another
   abbrev pub left : ℕ → ℕ → Option Open
-  left start below = open_from G sender receiver start (take (below - start) (drop start calls))
+  left start below = open_send_from G sender receiver start (take (below - start) (drop start calls))
 
   -- one start
   abbrev pub here : ℕ → Call → Option Open
-  here start call = open_at (is_some (partner_of (pairs_of G) (sender, start))) receiver (record { rank = sender; start = start }) call
+  here start call = open_send (is_some (partner_of (pairs_of G) (sender, start))) receiver (record { rank = sender; start = start }) call
 
   pub left_here : (start below : ℕ) (call : Call) → start < below → slice_get calls start ≡ Some call → left start below ≡ or_open (here start call) (left (start + 1) below)
   left_here start below call low there =
       let few : below - start ≡ suc (below - (start + 1)) = omega (arith, low) in
       let next : suc start ≡ start + 1 = omega arith in
-      ap (λ l. open_from G sender receiver start (take (below - start) l)) (drop-at calls start call there)
-      ∙ ap (λ k. open_from G sender receiver start (take k (call ∷ drop (suc start) calls))) few
-      ∙ ap (λ k. or_open (here start call) (open_from G sender receiver k (take (below - (start + 1)) (drop k calls)))) next
+      ap (λ l. open_send_from G sender receiver start (take (below - start) l)) (drop-at calls start call there)
+      ∙ ap (λ k. open_send_from G sender receiver start (take k (call ∷ drop (suc start) calls))) few
+      ∙ ap (λ k. or_open (here start call) (open_send_from G sender receiver k (take (below - (start + 1)) (drop k calls)))) next
 
   pub left_past : (start below : ℕ) → slice_get calls start ≡ None → left start below ≡ None
   left_past start below none =
-      ap (open_from G sender receiver start) (take-none (below - start) (drop start calls) (drop-past calls start none))
+      ap (open_send_from G sender receiver start) (take-none (below - start) (drop start calls) (drop-past calls start none))
 
   pub left_none : (start below : ℕ) → below ≤ start → left start below ≡ None
-  left_none start below high = (let none : below - start ≡ 0 = omega (arith, high) in ap (λ k. open_from G sender receiver start (take k (drop start calls))) none)
+  left_none start below high = (let none : below - start ≡ 0 = omega (arith, high) in ap (λ k. open_send_from G sender receiver start (take k (drop start calls))) none)
 
 or_some : (found other : Option Open) → is_some found ≡ true → or_open found other ≡ found
 or_some None other h = absurd (cc)
@@ -71,13 +71,13 @@ none_here G sender receiver calls start below call found all low there is none s
 
 -- one sender more
 pub opens_step : (G : List Event) (receiver : ℕ) (rest : List ℕ) (d : ℕ) (opens new all : List Open) → 1 ≤ length rest
-    → new ≡ opens ++ listed_open (first_open G (get_or rest 0 d) receiver) → opens ++ opens_of G rest receiver ≡ all
+    → new ≡ opens ++ listed_open (first_open_send G (get_or rest 0 d) receiver) → opens ++ opens_of G rest receiver ≡ all
     → new ++ opens_of G (take (length rest - 1) (drop 1 rest)) receiver ≡ all
 opens_step G receiver [] d opens new all some made so_far = absurd (omega (arith, some))
 opens_step G receiver (x ∷ xs) d opens new all some made so_far =
     let tail : take (length (x ∷ xs) - 1) xs ≡ xs = take-ranks xs (length (x ∷ xs) - 1) (omega arith) in
     ap (λ l. new ++ opens_of G l receiver) tail ∙ ap (λ l. l ++ opens_of G xs receiver) made
-    ∙ append_assoc opens (listed_open (first_open G x receiver)) (opens_of G xs receiver) ∙ so_far
+    ∙ append_assoc opens (listed_open (first_open_send G x receiver)) (opens_of G xs receiver) ∙ so_far
   where
     take-ranks : (ys : List ℕ) (k : ℕ) → length ys ≤ k → take k ys ≡ ys
     take-ranks [] zero h = refl

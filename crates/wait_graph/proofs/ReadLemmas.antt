@@ -4,10 +4,11 @@ use Rattle.run_model.specs.declared.event.Event.{Event}
 use Rattle.wait_graph.specs.declared.register.Register.{Register}
 use Rattle.wait_graph.specs.declared.reading.Run.{Run}
 use Rattle.wait_graph.specs.Register.{IsRegister}
-use Rattle.wait_graph.specs.Going.{going, halting, stops}
-use Rattle.wait_graph.specs.Reading.{IsRead}
+use Rattle.wait_graph.specs.Going.{going, halting}
+use Rattle.wait_graph.specs.Reading.{IsRunRead}
 use Rattle.std.specs.List.{AllByRecursion}
 use Rattle.std.proofs.lemmas.List.Elements.{recursion_from_All}
+use Rattle.run_model.specs.Due.{stops}
 use Rattle.causes.specs.Clocks.{AreOfRanks}
 
 -- each event's rank is below n
@@ -60,7 +61,7 @@ can_note n events (x ∷ xs) register d is some short =
 
 -- the end, at a stop or past all events
 pub read_stop : (n : ℕ) (events rest : List Event) (register : Register) (run : Run) (d : Event) → IsReadSoFar n events rest register → 1 ≤ length rest → stops (get_or rest 0 d).reply ≡ true
-    → run.register ≡ register → run.stopped.now ≡ rest → IsRead n events run
+    → run.register ≡ register → run.stopped.now ≡ rest → IsRunRead n events run
 read_stop n events [] register run d is some stop register_is rest_is = absurd (omega (arith, some))
 read_stop n events (x ∷ xs) register run d is some stop register_is rest_is =
     let none : is.before ++ [] ≡ going events = rw stop at is.goes in
@@ -71,7 +72,7 @@ read_stop n events (x ∷ xs) register run d is some stop register_is rest_is =
     }
 
 pub read_end : (n : ℕ) (events rest : List Event) (register : Register) (run : Run) → IsReadSoFar n events rest register → length rest < 1
-    → run.register ≡ register → run.stopped.now ≡ rest → IsRead n events run
+    → run.register ≡ register → run.stopped.now ≡ rest → IsRunRead n events run
 read_end n events [] register run is none register_is rest_is =
     record {
       register = subst (IsRegister n (going events)) (sym register_is) (let F : List Event → Type 0 = λ l. IsRegister n l register in subst F (sym (append-nil is.before) ∙ is.goes) is.is_register);

@@ -1,5 +1,6 @@
 -- Each rank that is stuck waits for something, and there is a cycle, or a rank that waits in vain.
 use Rattle.std.proofs.Common.{◌≡◌, ◌≢◌, ◌++◌, ◌<◌, ◌⊎◌, ◌∙◌, ◌∷◌, ◌&&◌, ◌==◌, [], ℕ, List, Option, Some, None, Bool, true, false, not, inl, inr, ap, arith, filter, find, is_some, length, nat_lt, refl, subst, sym}
+use Rattle.std.specs.Option.{option_to_list}
 use Rattle.std.proofs.lemmas.Bool.{and_parts, eq-eqb, eqb-true, ltb-true, or_cases, or_left, or_parts, or_right}
 use Rattle.std.specs.List.{list_all, list_any}
 use Rattle.mpi_call.specs.declared.call.Call.{Call}
@@ -9,7 +10,7 @@ use Rattle.mpi_call.specs.declared.call.TakeMode.{TakeMode}
 use Rattle.mpi_call.specs.declared.call.TakeMode.TheVariants.{All, Any, Several, TestAll, TestAny, TestSeveral}
 use Rattle.mpi_call.specs.Members.{is_member}
 use Rattle.run_model.specs.declared.event.Event.{Event}
-use Rattle.run_model.specs.Allowed.{can_go, flags_of, holds, is_prompt}
+use Rattle.run_model.specs.Allowed.{can_go, flags_of, mode_holds, is_prompt}
 use Rattle.run_model.specs.Due.{bad_halt, bad_request, due, halted, is_full}
 use Rattle.run_model.specs.Lists.{world}
 use Rattle.run_model.specs.Program.{AsksInBounds, ends}
@@ -17,13 +18,13 @@ use Rattle.run_model.specs.Readiness.{is_ready}
 use Rattle.run_model.specs.Run.{IsRun}
 use Rattle.run_model.specs.Serial.{call_after}
 use Rattle.run_model.specs.Shape.{can_take, is_test}
-use Rattle.run_model.specs.Views.{Next, View, replies_in, start_at, view_of}
+use Rattle.run_model.specs.Views.{Next, View, moment_at, moment_of, replies_in, start_at, view_of}
 use Rattle.run_model.proofs.RunLaws.{IsRun-front, Kept, Lawful, kept_run}
 use Rattle.run_model.proofs.TakeShapes.{none_bad}
 use Rattle.run_model.proofs.Views.{option_cases, test_cases}
 use Rattle.run_model.proofs.MemberLists.{AreMembers-world}
 use Rattle.wait_graph.specs.Going.{going, halting, stopped_call}
-use Rattle.wait_graph.specs.Graph.{cycle_from, cycles, cycles_in, has_no_hope, hopeless, is_hopeless, is_hopeless_at, is_live, listed, next_at, next_of, waits_for}
+use Rattle.wait_graph.specs.Graph.{cycle_from, cycles, cycles_in, has_no_hope, hopeless, is_hopeless, is_hopeless_at, is_live, next_at, waited_rank, waits_for}
 use Rattle.wait_graph.specs.Laws.{BlockedWait, HasCause, IsDead, IsEndedRun}
 use Rattle.wait_graph.specs.declared.wait.Wait.{Wait}
 use Rattle.wait_graph.specs.Waits.{awaited_by, wait_at, waits_at, waits_in}
@@ -33,17 +34,17 @@ use Rattle.wait_graph.proofs.Halting.{halted-going, parts_are, stopped_is, stuck
 -- 1. a call that cannot go waits for something
 
 waits_some : (n : ℕ) (G : List Event) (me : ℕ) (starts : List ℕ) → list_all (λ k. can_take (view_of G me) k) starts ≡ true
-    → list_all (λ x. x) (flags_of n G me (view_of G me) starts) ≡ false → waits_in n G me starts ≢ []
+    → list_all (λ x. x) (flags_of (moment_at n G me) starts) ≡ false → waits_in n G me starts ≢ []
 waits_some n G me [] made flags = absurd (cc)
 waits_some n G me (k ∷ starts) made flags =
     let own : View = view_of G me in
     let parts = and_parts (can_take own k) (list_all (λ k. can_take own k) starts) made in
     elim (option_cases (start_at own k)) [
       | inl call ↦ (
-          let F : Option Call → Type 0 = λ o. (is_ready n G me own k o && list_all (λ x. x) (flags_of n G me own starts)) ≡ false in
+          let F : Option Call → Type 0 = λ o. (is_ready (moment_of n G me own) k o && list_all (λ x. x) (flags_of (moment_of n G me own) starts)) ≡ false in
           let flags_here = subst F call.1 flags in
           let here : waits_in n G me (k ∷ starts) ≡ wait_at n G me k (Some call.0) ++ waits_in n G me starts = ap (λ o. wait_at n G me k o ++ waits_in n G me starts) call.1 in
-          elim (test_cases (is_ready n G me own k (Some call.0))) [
+          elim (test_cases (is_ready (moment_of n G me own) k (Some call.0))) [
             | inl t ↦ (
                 let one : wait_at n G me k (Some call.0) ≡ [] = rw t refl in
                 let P : List Wait → Type 0 = λ l. l ≢ [] in
@@ -62,7 +63,7 @@ not_all [] some h = absurd (omega (arith, some))
 not_all (flag ∷ flags) some h = (let parts = or_parts flag (list_any (λ x. x) flags) h in rw parts.0 refl)
 
 -- the modes' conditions fail only where some start is not ready
-held_some : (mode : TakeMode) (flags : List Bool) → 0 < length flags → holds mode flags ≡ false → list_all (λ x. x) flags ≡ false
+held_some : (mode : TakeMode) (flags : List Bool) → 0 < length flags → mode_holds mode flags ≡ false → list_all (λ x. x) flags ≡ false
 held_some All flags some h = h
 held_some TestAll flags some h = h
 held_some Any flags some h = not_all flags some h
@@ -70,7 +71,7 @@ held_some Several flags some h = not_all flags some h
 held_some TestAny flags some h = not_all flags some h
 held_some TestSeveral flags some h = not_all flags some h
 
-length_flags : (n : ℕ) (G : List Event) (me : ℕ) (own : View) (starts : List ℕ) → length (flags_of n G me own starts) ≡ length starts
+length_flags : (n : ℕ) (G : List Event) (me : ℕ) (own : View) (starts : List ℕ) → length (flags_of (moment_of n G me own) starts) ≡ length starts
 length_flags n G me own [] = refl
 length_flags n G me own (k ∷ starts) = (let rest = length_flags n G me own starts in omega (arith, rest))
 
@@ -93,10 +94,10 @@ held_waits : (n : ℕ) (G : List Event) (me : ℕ) (call : Call) → halted G �
 held_waits n G me (Take starts mode) none h some =
     let own : View = view_of G me in
     let parts = or_parts (is_some (due n G me own (Take starts mode))) (is_prompt n G me own (Take starts mode)) h in
-    let held = or_parts (is_test mode) (holds mode (flags_of n G me own starts)) parts.1 in
+    let held = or_parts (is_test mode) (mode_holds mode (flags_of (moment_of n G me own) starts)) parts.1 in
     let few = some starts mode refl in
     let long = length_flags n G me own starts in
-    waits_some n G me starts (starts_made n G me starts mode none parts.0) (held_some mode (flags_of n G me own starts) (omega (arith, few, long)) held.1)
+    waits_some n G me starts (starts_made n G me starts mode none parts.0) (held_some mode (flags_of (moment_of n G me own) starts) (omega (arith, few, long)) held.1)
 held_waits n G me (Peek comm source tag wait) none h some = λ e. cc
 held_waits n G me (Send comm dest tag ints sync) none h some = absurd (let parts = or_parts (is_some (due n G me (view_of G me) (Send comm dest tag ints sync))) true h in let no : true ≡ false = parts.1 in cc)
 held_waits n G me (Post comm source tag room) none h some = absurd (let parts = or_parts (is_some (due n G me (view_of G me) (Post comm source tag room))) true h in let no : true ≡ false = parts.1 in cc)
@@ -138,13 +139,13 @@ any_member p (y ∷ ys) x there h = elim (or_cases (y == x) (is_member ys x) the
 cycles_some : (next : ℕ → Option ℕ) (n : ℕ) (xs : List ℕ) (home : ℕ) (ranks : List ℕ) → is_member xs home ≡ true → cycle_from next n home ≡ Some ranks → cycles_in next n xs ≢ []
 cycles_some next n [] home ranks there found = absurd (cc)
 cycles_some next n (x ∷ xs) home ranks there found = elim (option_cases (cycle_from next n x)) [
-  | inl one ↦ (let e : listed (cycle_from next n x) ≡ one.0 ∷ [] = ap listed one.1 in rw e (λ no. cc))
+  | inl one ↦ (let e : option_to_list (cycle_from next n x) ≡ one.0 ∷ [] = ap option_to_list one.1 in rw e (λ no. cc))
   | inr none ↦ elim (or_cases (x == home) (is_member xs home) there) [
     | inl t ↦ (
         let F : ℕ → Type 0 = λ r. cycle_from next n r ≡ None in
         let no : None ≡ Some ranks = sym (subst F (eqb-true x home t) none) ∙ found in
         absurd (cc))
-    | inr t ↦ (let e : listed (cycle_from next n x) ≡ [] = ap listed none in rw e (cycles_some next n xs home ranks t found))
+    | inr t ↦ (let e : option_to_list (cycle_from next n x) ≡ [] = ap option_to_list none in rw e (cycles_some next n xs home ranks t found))
   ]
 ]
 
@@ -206,7 +207,7 @@ module _ (next : Next) (n : ℕ) (lawful : Lawful next) (bounds : AsksInBounds n
   first_wait (wait ∷ rest) some = (wait, rest, refl)
 
   -- the rank that a live rank waits for next, where it has hope
-  goes_on : (rank : ℕ) → IsLive rank → is_hopeless n events rank ≡ false → (other : ℕ) × (next_of n events rank ≡ Some other) × IsLive other
+  goes_on : (rank : ℕ) → IsLive rank → is_hopeless n events rank ≡ false → (other : ℕ) × (waited_rank n events rank ≡ Some other) × IsLive other
   goes_on rank live hope =
       let at = stopped_at rank live.call live.below live.live in
       let waits : List Wait = waits_at n G rank live.call in
@@ -234,9 +235,9 @@ module _ (next : Next) (n : ℕ) (lawful : Lawful next) (bounds : AsksInBounds n
           | inl u ↦ absurd (let no : true ≡ false = sym (any_member (is_hopeless n events) (world n 0) rank ((AreMembers-world n rank below).has_me) u) ∙ t in cc)
           | inr u ↦ u
         ] in
-        let cycle = has_cycle (next_of n events) n IsLive (λ rank live. live.below) (λ rank live. goes_on rank live (hope rank live.below))
+        let cycle = has_cycle (waited_rank n events) n IsLive (λ rank live. live.below) (λ rank live. goes_on rank live (hope rank live.below))
         dead.rank (record { below = dead.below; call = dead.call; live = dead.live }) in
-        inl (cycles_some (next_of n events) n (world n 0) cycle.home (cycle.home ∷ cycle.ranks) ((AreMembers-world n cycle.home cycle.below).has_me) cycle.found))
+        inl (cycles_some (waited_rank n events) n (world n 0) cycle.home (cycle.home ∷ cycle.ranks) ((AreMembers-world n cycle.home cycle.below).has_me) cycle.found))
   ]
 
 pub blocked_wait : (next : Next) (n : ℕ) → Lawful next → AsksInBounds next → BlockedWait next n

@@ -14,10 +14,10 @@ use Rattle.run_model.proofs.Views.{length-view_of, option_cases, test_cases, vie
 use Rattle.picked_runs.proofs.Grown.{pairs_of-push}
 use Rattle.srr_entry.specs.Known.{IsKnownOf}
 use Rattle.wait_graph.specs.declared.register.Register.{Register}
-use Rattle.wait_graph.specs.declared.own.Own.{Own}
+use Rattle.wait_graph.specs.declared.own.RankRecord.{RankRecord}
 use Rattle.msg_races.specs.declared.names.Name.{Name as StartName}
-use Rattle.wait_graph.specs.Register.{AreNames, ArePartners, IsRegister, IsOwn, count_one, count_start, earlier_in, name_in, named_by}
-use Rattle.wait_graph.specs.Names.{is_either}
+use Rattle.wait_graph.specs.Register.{AreNames, ArePartners, IsRegister, IsRankRecord, count_one, count_start, earlier_in, name_pair, named_by}
+use Rattle.wait_graph.specs.inside.Names.{is_either}
 use Rattle.wait_graph.specs.Partners.{is_paired_in}
 use Rattle.wait_graph.specs.Taken.{AreTaken}
 
@@ -43,9 +43,9 @@ starts_more view call reply =
       | inr t ↦ rw t (let e : length (starts_of (view ++ (call, reply) ∷ [])) ≡ length (starts_of view) + 0 = rw t at (both ∙ sizes) in e)
     ]
 
-pub own_more : (n : ℕ) (view : View) (call : Call) (reply : Reply) (old new : Own) → IsOwn n view old → IsKnownOf n (view ++ (call, reply) ∷ []) new.known
+pub own_more : (n : ℕ) (view : View) (call : Call) (reply : Reply) (old new : RankRecord) → IsRankRecord n view old → IsKnownOf n (view ++ (call, reply) ∷ []) new.known
     → AreTaken (view ++ (call, reply) ∷ []) new.taken → new.calls ≡ old.calls + 1 → new.starts ≡ old.starts + count_start (call, reply) → new.has_ended ≡ (old.has_ended || ends (call, reply))
-    → IsOwn n (view ++ (call, reply) ∷ []) new
+    → IsRankRecord n (view ++ (call, reply) ∷ []) new
 own_more n view call reply old new is known taken calls starts ended =
     record {
       known = known;
@@ -95,7 +95,7 @@ take-size [] = refl
 take-size (x ∷ xs) = ap (λ l. x ∷ l) (take-size xs)
 
 name-here : (before : List Event) (event : Event) (name : StartName) → name.rank ≡ event.rank → name.start ≡ length (starts_of (view_of before event.rank))
-    → option_map name_in (named_by event name) ≡ name_of_start before (Some event)
+    → option_map name_pair (named_by event name) ≡ name_of_start before (Some event)
 name-here before event name rank start = elim (test_cases (is_start (event.call, event.reply))) [
   | inl t ↦ rw t (let p : Name = (name.rank, name.start) in let q : Name = (event.rank, length (starts_of (view_of before event.rank))) in let same : p ≡ q = cc in ap (λ x. Some x) same)
   | inr t ↦ rw t refl
@@ -109,25 +109,25 @@ names_more before event names name are rank start =
       as_many = (let a = length-append names (named_by event name ∷ []) in let b = length-append before (event ∷ []) in omega (arith, a, b, many));
       each = λ at. elim (cases_order at (length before)) [
         | inl same ↦ (
-            let F : ℕ → Type 0 = λ k. option_map name_in (slice_index_or (names ++ named_by event name ∷ []) k None) ≡ name_at (before ++ event ∷ []) k in
+            let F : ℕ → Type 0 = λ k. option_map name_pair (slice_index_or (names ++ named_by event name ∷ []) k None) ≡ name_at (before ++ event ∷ []) k in
             let here : slice_index_or (names ++ named_by event name ∷ []) (length before) None ≡ named_by event name =
             ap (λ k. slice_index_or (names ++ named_by event name ∷ []) k None) (sym many) ∙ or-seam names (named_by event name) None in
             let there : name_at (before ++ event ∷ []) (length before) ≡ name_of_start before (Some event) =
             ap (λ l. name_of_start l (slice_get (before ++ event ∷ []) (length before))) (take-front before event (length before) (omega arith) ∙ take-size before)
             ∙ ap (name_of_start before) (get-seam before event) in
-            subst F (sym same) (ap (option_map name_in) here ∙ name-here before event name rank start ∙ sym there))
+            subst F (sym same) (ap (option_map name_pair) here ∙ name-here before event name rank start ∙ sym there))
         | inr apart ↦ elim apart [
           | inl less ↦ (
               let mine = or-front names (named_by event name) None at (omega (arith, less, many)) in
               let yours : name_at (before ++ event ∷ []) at ≡ name_at before at =
               ap (λ l. name_of_start l (slice_get (before ++ event ∷ []) at)) (take-front before event at (omega (arith, less))) ∙ ap (name_of_start (take at before)) (get-front before event at less) in
-              ap (option_map name_in) mine ∙ are.each at ∙ sym yours)
+              ap (option_map name_pair) mine ∙ are.each at ∙ sym yours)
           | inr more ↦ (
               let a = length-append names (named_by event name ∷ []) in
               let b = length-append before (event ∷ []) in
               let mine = or-past (names ++ named_by event name ∷ []) None at (omega (arith, a, many, more)) in
               let yours : name_at (before ++ event ∷ []) at ≡ None = ap (name_of_start (take at (before ++ event ∷ []))) (get-past (before ++ event ∷ []) at (omega (arith, b, more))) in
-              ap (option_map name_in) mine ∙ sym yours)
+              ap (option_map name_pair) mine ∙ sym yours)
         ]
       ];
     }
@@ -155,9 +155,9 @@ or-nothing true = refl
 or-nothing false = refl
 
 some-with : (P : List (Name × Name)) (earlier : Option StartName) (name other : StartName)
-    → is_some (partner_of (P ++ pair_with (option_map name_in earlier) (name_in name)) (name_in other)) ≡ (is_some (partner_of P (name_in other)) || is_either earlier name other)
-some-with P None name other = ap (λ l. is_some (partner_of l (name_in other))) (append-nil P) ∙ or-nothing (is_some (partner_of P (name_in other)))
-some-with P (Some earlier) name other = some-push P (name_in earlier) (name_in name) (name_in other)
+    → is_some (partner_of (P ++ pair_with (option_map name_pair earlier) (name_pair name)) (name_pair other)) ≡ (is_some (partner_of P (name_pair other)) || is_either earlier name other)
+some-with P None name other = ap (λ l. is_some (partner_of l (name_pair other))) (append-nil P) ∙ or-nothing (is_some (partner_of P (name_pair other)))
+some-with P (Some earlier) name other = some-push P (name_pair earlier) (name_pair name) (name_pair other)
 
 pub partners_more : (before : List Event) (event : Event) (names : List (Option StartName)) (old new : List (List Bool)) (name : StartName) → AreNames before names → ArePartners before old
     → name.rank ≡ event.rank → name.start ≡ length (starts_of (view_of before event.rank))
@@ -169,18 +169,18 @@ partners_more before event names old new name are partners rank start joined =
     let same : mine ≡ later = cc in
     let P : List (Name × Name) = pairs_of before in
     let F : Option ℕ → Type 0 = λ m. (other : StartName)
-    → is_some (partner_of (P ++ elim m [ None ↦ [] | Some at ↦ pair_with (name_at before at) later ]) (name_in other)) ≡ (is_some (partner_of P (name_in other)) || is_either (earlier_in names m) name other) in
+    → is_some (partner_of (P ++ elim m [ None ↦ [] | Some at ↦ pair_with (name_at before at) later ]) (name_pair other)) ≡ (is_some (partner_of P (name_pair other)) || is_either (earlier_in names m) name other) in
     let grown : F event.mate = elim (option_cases event.mate) [
       | inl some ↦ subst F (sym some.1) (λ other.
-          ap (λ q. is_some (partner_of (P ++ pair_with q later) (name_in other))) (sym (are.each some.0))
-          ∙ ap (λ l. is_some (partner_of (P ++ pair_with (option_map name_in (slice_index_or names some.0 None)) l) (name_in other))) (sym same)
+          ap (λ q. is_some (partner_of (P ++ pair_with q later) (name_pair other))) (sym (are.each some.0))
+          ∙ ap (λ l. is_some (partner_of (P ++ pair_with (option_map name_pair (slice_index_or names some.0 None)) l) (name_pair other))) (sym same)
           ∙ some-with P (slice_index_or names some.0 None) name other)
-      | inr none ↦ subst F (sym none) (λ other. ap (λ l. is_some (partner_of l (name_in other))) (append-nil P) ∙ or-nothing (is_some (partner_of P (name_in other))))
+      | inr none ↦ subst F (sym none) (λ other. ap (λ l. is_some (partner_of l (name_pair other))) (append-nil P) ∙ or-nothing (is_some (partner_of P (name_pair other))))
     ] in
     record {
       each = λ other.
           joined other ∙ ap (λ b. b || is_either (earlier_in names event.mate) name other) (partners.each other)
-          ∙ sym (ap (λ l. is_some (partner_of l (name_in other))) (pairs_of-push before event) ∙ grown other);
+          ∙ sym (ap (λ l. is_some (partner_of l (name_pair other))) (pairs_of-push before event) ∙ grown other);
     }
 
 -- 4. the register
@@ -195,10 +195,10 @@ length-starts (seen ∷ view) = (let rest = length-starts view in elim (test_cas
   | inr t ↦ rw t (omega (arith, rest))
 ])
 
-pub register_more : (n : ℕ) (before : List Event) (event : Event) (old new : Register) (name : StartName) (own : Own) → IsRegister n before old → event.rank < n
+pub register_more : (n : ℕ) (before : List Event) (event : Event) (old new : Register) (name : StartName) (own : RankRecord) → IsRegister n before old → event.rank < n
     → new.ranks.items ≡ slice_set old.ranks.items event.rank own
-    → ((d : Own) → IsOwn n (view_of before event.rank) (slice_index_or old.ranks.items event.rank d) → IsOwn n (view_of before event.rank ++ (event.call, event.reply) ∷ []) own)
-    → new.names.items ≡ old.names.items ++ named_by event name ∷ [] → name.rank ≡ event.rank → ((d : Own) → name.start ≡ (slice_index_or old.ranks.items event.rank d).starts)
+    → ((d : RankRecord) → IsRankRecord n (view_of before event.rank) (slice_index_or old.ranks.items event.rank d) → IsRankRecord n (view_of before event.rank ++ (event.call, event.reply) ∷ []) own)
+    → new.names.items ≡ old.names.items ++ named_by event name ∷ [] → name.rank ≡ event.rank → ((d : RankRecord) → name.start ≡ (slice_index_or old.ranks.items event.rank d).starts)
     → ((other : StartName) → is_paired_in new.partners other ≡ (is_paired_in old.partners other || is_either (earlier_in old.names.items event.mate) name other))
     → IsRegister n (before ++ event ∷ []) new
 register_more n before event old new name own is low ranks grown names rank start joined =
@@ -211,13 +211,13 @@ register_more n before event old new name own is low ranks grown names rank star
             let same = eqb-true event.rank r t in
             let within : event.rank < length old.ranks.items = (let many = is.as_many in omega (arith, many, low)) in
             let here : slice_index_or new.ranks.items event.rank d ≡ own = ap (λ l. slice_index_or l event.rank d) ranks ∙ get_or-set_same old.ranks.items event.rank own d within in
-            let F : ℕ → Type 0 = λ k. IsOwn n (view_of (before ++ event ∷ []) k) (slice_index_or new.ranks.items k d) in
-            let G : View → Type 0 = λ v. IsOwn n v (slice_index_or new.ranks.items event.rank d) in
-            subst F same (subst G (sym (view_of-own before event)) (subst (IsOwn n (view_of before event.rank ++ (event.call, event.reply) ∷ [])) (sym here) (grown d (is.ranks event.rank d low)))))
+            let F : ℕ → Type 0 = λ k. IsRankRecord n (view_of (before ++ event ∷ []) k) (slice_index_or new.ranks.items k d) in
+            let G : View → Type 0 = λ v. IsRankRecord n v (slice_index_or new.ranks.items event.rank d) in
+            subst F same (subst G (sym (view_of-own before event)) (subst (IsRankRecord n (view_of before event.rank ++ (event.call, event.reply) ∷ [])) (sym here) (grown d (is.ranks event.rank d low)))))
         | inr t ↦ (
             let here : slice_index_or new.ranks.items r d ≡ slice_index_or old.ranks.items r d = ap (λ l. slice_index_or l r d) ranks ∙ get_or-set_other old.ranks.items event.rank r own d (λ e. apart event.rank r t (sym e)) in
-            let G : View → Type 0 = λ v. IsOwn n v (slice_index_or new.ranks.items r d) in
-            subst G (sym (view_of-other before event r t)) (subst (IsOwn n (view_of before r)) (sym here) (is.ranks r d below)))
+            let G : View → Type 0 = λ v. IsRankRecord n v (slice_index_or new.ranks.items r d) in
+            subst G (sym (view_of-other before event r t)) (subst (IsRankRecord n (view_of before r)) (sym here) (is.ranks r d below)))
       ];
       others = λ r above. view_of-other before event r (elim (test_cases (event.rank == r)) [
         | inl t ↦ (let same = eqb-true event.rank r t in absurd (omega (arith, same, low, above)))
@@ -231,7 +231,7 @@ register_more n before event old new name own is low ranks grown names rank star
 none_at : {A : Type 0} (k : ℕ) (d : A) → slice_index_or [] k d ≡ d
 none_at k d = refl
 
-pub register_first : (n : ℕ) (register : Register) → length register.ranks.items ≡ n → ((rank : ℕ) (d : Own) → rank < n → IsOwn n [] (slice_index_or register.ranks.items rank d)) → register.names.items ≡ [] → register.partners ≡ []
+pub register_first : (n : ℕ) (register : Register) → length register.ranks.items ≡ n → ((rank : ℕ) (d : RankRecord) → rank < n → IsRankRecord n [] (slice_index_or register.ranks.items rank d)) → register.names.items ≡ [] → register.partners ≡ []
     → IsRegister n [] register
 register_first n register many each names partners =
     let N : List (Option StartName) → Type 0 = λ l. AreNames [] l in
@@ -245,27 +245,27 @@ register_first n register many each names partners =
     }
 
 -- ranks are made one after the other
-pub record AreFirst (n count : ℕ) (ranks : List Own) : Type 0 where
+pub record AreFirst (n count : ℕ) (ranks : List RankRecord) : Type 0 where
   pub many : length ranks ≡ count
-  pub each : (rank : ℕ) (d : Own) → rank < count → IsOwn n [] (slice_index_or ranks rank d)
+  pub each : (rank : ℕ) (d : RankRecord) → rank < count → IsRankRecord n [] (slice_index_or ranks rank d)
 
-pub first_more : (n count next : ℕ) (ranks : List Own) (own : Own) → AreFirst n count ranks → IsOwn n [] own → next ≡ count + 1 → AreFirst n next (ranks ++ own ∷ [])
+pub first_more : (n count next : ℕ) (ranks : List RankRecord) (own : RankRecord) → AreFirst n count ranks → IsRankRecord n [] own → next ≡ count + 1 → AreFirst n next (ranks ++ own ∷ [])
 first_more n count next ranks own are is more =
     let many = are.many in
     record {
       many = (let a = length-append ranks (own ∷ []) in omega (arith, a, many, more));
       each = λ rank d below. elim (cases_order rank count) [
         | inl same ↦ (
-            let F : ℕ → Type 0 = λ k. IsOwn n [] (slice_index_or (ranks ++ own ∷ []) k d) in
-            subst F (many ∙ sym same) (subst (IsOwn n []) (sym (or-seam ranks own d)) is))
+            let F : ℕ → Type 0 = λ k. IsRankRecord n [] (slice_index_or (ranks ++ own ∷ []) k d) in
+            subst F (many ∙ sym same) (subst (IsRankRecord n []) (sym (or-seam ranks own d)) is))
         | inr other ↦ elim other [
-          | inl less ↦ subst (IsOwn n []) (sym (or-front ranks own d rank (omega (arith, less, many)))) (are.each rank d less)
+          | inl less ↦ subst (IsRankRecord n []) (sym (or-front ranks own d rank (omega (arith, less, many)))) (are.each rank d less)
           | inr above ↦ absurd (omega (arith, above, below, more))
         ]
       ];
     }
 
-pub few_calls : (n : ℕ) (before : List Event) (rank : ℕ) (own : Own) → IsOwn n (view_of before rank) own → length before + 1 < 2 ^ 32 → (own.calls + 1 < 2 ^ 32) × (own.starts + 1 < 2 ^ 32)
+pub few_calls : (n : ℕ) (before : List Event) (rank : ℕ) (own : RankRecord) → IsRankRecord n (view_of before rank) own → length before + 1 < 2 ^ 32 → (own.calls + 1 < 2 ^ 32) × (own.starts + 1 < 2 ^ 32)
 few_calls n before rank own is short =
     let few = length-view_of before rank in
     let fewer = length-starts (view_of before rank) in
@@ -403,5 +403,5 @@ pub filter-end : (p : ℕ → Bool) (ranks rest all : List ℕ) → length rest 
 filter-end p ranks [] all none so_far = sym (append-nil ranks) ∙ so_far
 filter-end p ranks (x ∷ xs) all none so_far = absurd (omega (arith, none))
 
-pub start-all : (n : ℕ) (events : List Event) (rank k : ℕ) (own : Own) → IsOwn n (view_of events rank) own → k ≡ own.starts → take k (starts_of (view_of events rank)) ≡ starts_of (view_of events rank)
+pub start-all : (n : ℕ) (events : List Event) (rank k : ℕ) (own : RankRecord) → IsRankRecord n (view_of events rank) own → k ≡ own.starts → take k (starts_of (view_of events rank)) ≡ starts_of (view_of events rank)
 start-all n events rank k own is same = take-calls (starts_of (view_of events rank)) k (let size = is.starts in omega (arith, size, same))

@@ -18,8 +18,8 @@ use Rattle.wait_graph.specs.declared.message.Open.{Open}
 use Rattle.wait_graph.specs.declared.message.Taken.{Taken}
 use Rattle.wait_graph.specs.declared.wait.Wait.{Wait}
 use Rattle.wait_graph.specs.Going.{going, halting, stopped_call}
-use Rattle.wait_graph.specs.Graph.{blocked_in, cycle_from, cycles, graph_of, hopeless, is_live, next_of}
-use Rattle.wait_graph.specs.Opens.{differences, first_open, opens_to}
+use Rattle.wait_graph.specs.Graph.{blocked_in, cycle_from, cycles, graph_of, hopeless, is_live, waited_rank}
+use Rattle.wait_graph.specs.Opens.{differences, first_open_send, opens_to}
 use Rattle.wait_graph.specs.Taken.{taken_last}
 use Rattle.wait_graph.specs.Waits.{senders, waits_at}
 
@@ -101,10 +101,10 @@ apart =
     ∷ event_of 2 (Take (0 ∷ []) All) (Stopped Stuck) None
     ∷ []
 
-for_the_absent : next_of 3 apart 0 ≡ Some 2
+for_the_absent : waited_rank 3 apart 0 ≡ Some 2
 for_the_absent = refl
 
-for_the_sender : next_of 3 apart 2 ≡ Some 0
+for_the_sender : waited_rank 3 apart 2 ≡ Some 0
 for_the_sender = refl
 
 -- rank 1 leads into the cycle and is not of it

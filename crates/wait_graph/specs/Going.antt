@@ -1,16 +1,11 @@
 -- A run before it was halted, and the calls at which ranks were stopped.
-use Rattle.std.specs.Prelude.{◌≡◌, ℕ, List, [], ◌∷◌, Option, Some, None, Bool, true, false, if◌then◌else◌, slice_get}
+use Rattle.std.specs.Prelude.{◌≡◌, ℕ, List, [], ◌∷◌, Option, Some, None, if◌then◌else◌, slice_get}
 use Rattle.mpi_call.specs.declared.call.Call.{Call}
 use Rattle.mpi_call.specs.declared.call.Halt.TheVariants.{Stuck}
-use Rattle.mpi_call.specs.declared.reply.Reply.{Reply}
 use Rattle.mpi_call.specs.declared.reply.Reply.TheVariants.{Stopped}
 use Rattle.run_model.specs.declared.event.Event.{Event}
+use Rattle.run_model.specs.Due.{stops}
 use Rattle.run_model.specs.Views.{View, view_of}
-
--- a reply that stops its rank
-abbrev pub stops : Reply → Bool
-stops (Stopped halt) = true
-stops reply = false
 
 -- the events before the first that stops a rank, and those from there on
 abbrev pub going : List Event → List Event

@@ -1,5 +1,6 @@
 -- Who waits for whom in a run that is stuck.
 use Rattle.std.specs.Prelude.{ℕ, zero, suc, List, [], ◌∷◌, ◌++◌, Option, Some, None, Bool, false, not, ◌&&◌, ◌==◌, if◌then◌else◌, filter, find, length, nat_lt}
+use Rattle.std.specs.Option.{option_to_list}
 use Rattle.std.specs.List.{list_all, list_any}
 use Rattle.mpi_call.specs.declared.call.Call.{Call}
 use Rattle.mpi_call.specs.Members.{is_member}
@@ -26,8 +27,8 @@ abbrev pub next_at : ℕ → List Event → ℕ → Option Call → Option ℕ
 next_at n G me None = None
 next_at n G me (Some call) = find (λ rank. is_live n G rank && waits_for (waits_at n G me call) rank) (world n 0)
 
-abbrev pub next_of : ℕ → List Event → ℕ → Option ℕ
-next_of n events rank = next_at n (going events) rank (stopped_call events rank)
+abbrev pub waited_rank : ℕ → List Event → ℕ → Option ℕ
+waited_rank n events rank = next_at n (going events) rank (stopped_call events rank)
 
 -- one of these can no longer come: all for whom a rank waits with it have ended
 abbrev pub has_no_hope : ℕ → List Event → List Wait → Bool
@@ -62,19 +63,14 @@ way_back next (suc left) home rank =
 abbrev pub cycle_from : (ℕ → Option ℕ) → ℕ → ℕ → Option (List ℕ)
 cycle_from next n home = in_front home (at_next (next home) (way_back next n home))
 
--- one or none, as a list
-abbrev pub listed : Option (List ℕ) → List (List ℕ)
-listed None = []
-listed (Some ranks) = ranks ∷ []
-
 -- the cycles that begin with these ranks
 abbrev pub cycles_in : (ℕ → Option ℕ) → ℕ → List ℕ → List (List ℕ)
 cycles_in next n [] = []
-cycles_in next n (rank ∷ ranks) = listed (cycle_from next n rank) ++ cycles_in next n ranks
+cycles_in next n (rank ∷ ranks) = option_to_list (cycle_from next n rank) ++ cycles_in next n ranks
 
 -- all cycles, by their least ranks
 abbrev pub cycles : ℕ → List Event → List (List ℕ)
-cycles n events = cycles_in (next_of n events) n (world n 0)
+cycles n events = cycles_in (waited_rank n events) n (world n 0)
 
 -- the hopeless ranks, rising
 abbrev pub hopeless : ℕ → List Event → List ℕ

@@ -2,10 +2,9 @@ pub mod Going
 pub mod Waits
 pub mod Graph
 pub mod Laws
-pub mod Names
 pub mod Partners
 pub mod Taken
 pub mod Register
 pub mod Reading
-pub mod Found
 pub mod Opens
+pub mod inside

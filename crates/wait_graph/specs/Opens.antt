@@ -16,19 +16,19 @@ use Rattle.wait_graph.specs.declared.difference.Difference.TheVariants.{Comm, So
 use Rattle.wait_graph.specs.declared.message.Open.{Open}
 
 -- a difference, unless two agree
-abbrev pub unless : Bool → Difference → List Difference
-unless agree difference = if agree then [] else difference ∷ []
+abbrev pub difference_unless : Bool → Difference → List Difference
+difference_unless agree difference = if agree then [] else difference ∷ []
 
 -- in what a message on communicator c, of a sender, with a tag, differs from those that a receive or a probe accepts
 abbrev pub differences : ℕ → Source → Tag → ℕ → ℕ → ℕ → List Difference
 differences comm source tag c sender sent =
-    unless (c == comm) Comm ++ (unless (source_agrees source sender) BySource ++ unless (tag_agrees tag sent) ByTag)
+    difference_unless (c == comm) Comm ++ (difference_unless (source_agrees source sender) BySource ++ difference_unless (tag_agrees tag sent) ByTag)
 
 -- a start with this name and call, where it is a Send to a rank and is not paired
-abbrev pub open_at : Bool → ℕ → StartName → Call → Option Open
-open_at paired receiver name (Send comm dest tag ints sync) =
+abbrev pub open_send : Bool → ℕ → StartName → Call → Option Open
+open_send paired receiver name (Send comm dest tag ints sync) =
     if (dest == receiver) && not paired then Some (record { name = name; comm = comm; tag = tag }) else None
-open_at paired receiver name call = None
+open_send paired receiver name call = None
 
 -- the first of two, where there is one
 abbrev pub or_open : Option Open → Option Open → Option Open
@@ -36,15 +36,15 @@ or_open None other = other
 or_open (Some first) other = Some first
 
 -- the first unpaired Send to a rank among these starts of a sender, numbered from `start` on
-abbrev pub open_from : List Event → ℕ → ℕ → ℕ → List Call → Option Open
-open_from G sender receiver start [] = None
-open_from G sender receiver start (call ∷ calls) =
-    or_open (open_at (is_some (partner_of (pairs_of G) (sender, start))) receiver (record { rank = sender; start = start }) call)
-    (open_from G sender receiver (suc start) calls)
+abbrev pub open_send_from : List Event → ℕ → ℕ → ℕ → List Call → Option Open
+open_send_from G sender receiver start [] = None
+open_send_from G sender receiver start (call ∷ calls) =
+    or_open (open_send (is_some (partner_of (pairs_of G) (sender, start))) receiver (record { rank = sender; start = start }) call)
+    (open_send_from G sender receiver (suc start) calls)
 
 -- the first unpaired Send of a sender to a rank
-abbrev pub first_open : List Event → ℕ → ℕ → Option Open
-first_open G sender receiver = open_from G sender receiver 0 (starts_of (view_of G sender))
+abbrev pub first_open_send : List Event → ℕ → ℕ → Option Open
+first_open_send G sender receiver = open_send_from G sender receiver 0 (starts_of (view_of G sender))
 
 -- one or none, as a list
 abbrev pub listed_open : Option Open → List Open
@@ -54,7 +54,7 @@ listed_open (Some first) = first ∷ []
 -- of each of these senders its first unpaired Send to a rank
 abbrev pub opens_of : List Event → List ℕ → ℕ → List Open
 opens_of G [] receiver = []
-opens_of G (sender ∷ senders) receiver = listed_open (first_open G sender receiver) ++ opens_of G senders receiver
+opens_of G (sender ∷ senders) receiver = listed_open (first_open_send G sender receiver) ++ opens_of G senders receiver
 
 -- of each rank its first unpaired Send to a rank
 abbrev pub opens_to : ℕ → List Event → ℕ → List Open

@@ -6,6 +6,6 @@ use Rattle.wait_graph.specs.Register.{IsRegister}
 use Rattle.wait_graph.specs.Going.{going, halting}
 
 -- what is kept of these events
-pub record IsRead (n : ℕ) (events : List Event) (run : Run) : Type 0 where
+pub record IsRunRead (n : ℕ) (events : List Event) (run : Run) : Type 0 where
   pub register : IsRegister n (going events) run.register
   pub stopped : run.stopped.now ≡ halting events

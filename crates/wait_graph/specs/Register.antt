@@ -10,13 +10,13 @@ use Rattle.run_model.specs.Program.{ends}
 use Rattle.run_model.specs.Views.{View, is_start, starts_of, view_of}
 use Rattle.srr_entry.specs.Known.{IsKnownOf}
 use Rattle.wait_graph.specs.declared.register.Register.{Register}
-use Rattle.wait_graph.specs.declared.own.Own.{Own}
+use Rattle.wait_graph.specs.declared.own.RankRecord.{RankRecord}
 use Rattle.msg_races.specs.declared.names.Name.{Name as StartName}
 use Rattle.wait_graph.specs.Partners.{is_paired_in}
 use Rattle.wait_graph.specs.Taken.{AreTaken}
 
 -- what is kept of a rank that has seen this
-pub record IsOwn (n : ℕ) (view : View) (own : Own) : Type 0 where
+pub record IsRankRecord (n : ℕ) (view : View) (own : RankRecord) : Type 0 where
   pub known : IsKnownOf n view own.known
   pub taken : AreTaken view own.taken
   pub calls : own.calls ≡ length view
@@ -24,22 +24,22 @@ pub record IsOwn (n : ℕ) (view : View) (own : Own) : Type 0 where
   pub has_ended : own.has_ended ≡ list_any ends view
 
 -- a name as a rank and a number
-abbrev pub name_in : StartName → Name
-name_in name = (name.rank, name.start)
+abbrev pub name_pair : StartName → Name
+name_pair name = (name.rank, name.start)
 
 -- the name of the start at each position
 pub record AreNames (events : List Event) (names : List (Option StartName)) : Type 0 where
   pub as_many : length names ≡ length events
-  pub each : (at : ℕ) → option_map name_in (slice_index_or names at None) ≡ name_at events at
+  pub each : (at : ℕ) → option_map name_pair (slice_index_or names at None) ≡ name_at events at
 
 -- the starts that are paired
 pub record ArePartners (events : List Event) (ranks : List (List Bool)) : Type 0 where
-  pub each : (name : StartName) → is_paired_in ranks name ≡ is_some (partner_of (pairs_of events) (name_in name))
+  pub each : (name : StartName) → is_paired_in ranks name ≡ is_some (partner_of (pairs_of events) (name_pair name))
 
 -- what is kept of n ranks beside these events
 pub record IsRegister (n : ℕ) (events : List Event) (register : Register) : Type 0 where
   pub as_many : length register.ranks.items ≡ n
-  pub ranks : (rank : ℕ) (d : Own) → rank < n → IsOwn n (view_of events rank) (slice_index_or register.ranks.items rank d)
+  pub ranks : (rank : ℕ) (d : RankRecord) → rank < n → IsRankRecord n (view_of events rank) (slice_index_or register.ranks.items rank d)
   pub others : (rank : ℕ) → n ≤ rank → view_of events rank ≡ []
   pub names : AreNames events register.names.items
   pub partners : ArePartners events register.partners

@@ -6,9 +6,9 @@ use Rattle.mpi_call.specs.declared.call.Source.{Source}
 use Rattle.mpi_call.specs.declared.call.Source.TheVariants.{Any, From, Null}
 use Rattle.mpi_call.specs.Needs.{needs}
 use Rattle.run_model.specs.declared.event.Event.{Event}
-use Rattle.run_model.specs.Communicators.{Entered, enter_at, instance_of, members_in}
+use Rattle.run_model.specs.Communicators.{Entered, enter_at, instance_of, members_for_rank}
 use Rattle.run_model.specs.Readiness.{is_ready}
-use Rattle.run_model.specs.Views.{start_at, view_of}
+use Rattle.run_model.specs.Views.{moment_at, start_at, view_of}
 use Rattle.wait_graph.specs.declared.wait.Wait.{Wait}
 
 -- whose message rank me can get: that of the rank that the source names; where it names any, that of each other member
@@ -24,23 +24,23 @@ absent needed find members = filter (λ member. needed member && not (is_some (f
 -- the absent members of the instance that rank me entered by its start k
 abbrev pub absent_for : ℕ → List Event → ℕ → ℕ → ℕ → Call → List ℕ
 absent_for n G me k comm enter =
-    absent (needs enter (members_in n (view_of G me) comm) me)
+    absent (needs enter (members_for_rank n (view_of G me) comm) me)
     (λ member. enter_at n (view_of G member) comm (instance_of (view_of G me) k comm))
-    (members_in n (view_of G me) comm)
+    (members_for_rank n (view_of G me) comm)
 
 -- for whom rank me waits with a start k: the senders of a receive, the receiver of a synchronous send, the absent members of a collective
 abbrev pub awaited_by : ℕ → List Event → ℕ → ℕ → Call → List ℕ
 awaited_by n G me k (Send comm dest tag ints sync) = dest ∷ []
-awaited_by n G me k (Post comm source tag room) = senders (members_in n (view_of G me) comm) me source
+awaited_by n G me k (Post comm source tag room) = senders (members_for_rank n (view_of G me) comm) me source
 awaited_by n G me k (Enter comm kind root op count ints) = absent_for n G me k comm (Enter comm kind root op count ints)
-awaited_by n G me k (Peek comm source tag wait) = senders (members_in n (view_of G me) comm) me source
+awaited_by n G me k (Peek comm source tag wait) = senders (members_for_rank n (view_of G me) comm) me source
 awaited_by n G me k call = []
 
 -- rank me waits with its start k, where that is not ready
 abbrev pub wait_at : ℕ → List Event → ℕ → ℕ → Option Call → List Wait
 wait_at n G me k None = []
 wait_at n G me k (Some call) =
-    if is_ready n G me (view_of G me) k (Some call) then []
+    if is_ready (moment_at n G me) k (Some call) then []
     else (record { start = Some k; call = call; awaited = awaited_by n G me k call }) ∷ []
 
 -- the listed starts that are not ready

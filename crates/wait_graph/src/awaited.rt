@@ -8,10 +8,9 @@ ghost use Rattle.wait_graph.specs.Register.{IsRegister};
 ghost use Rattle.wait_graph.specs.Waits.{absent_for, awaited_by, senders};
 
 use crate::register::Register;
-use mpi_call::call::{Call, Comm, Kind, Source};
+use mpi_call::call::{Call, Comm, Source};
 use mpi_call::lists::Ranks;
-use mpi_call::members::place_of;
-use mpi_call::needs::{UNDEFINED, colour_in, is_root};
+use mpi_call::needs::needs;
 use std::alloc::{AllocError, Global};
 
 /// For whom a rank waits with a start, or with a probe.
@@ -138,7 +137,7 @@ fn is_absent(
     ensures { (n : ℕ) (events : List EventSpec) → IsRegister n events register.now
         → result ≡ (needs enter.now members.now me member && not (is_some (enter_at n (view_of events member) comm instance))) }
 {
-    is_needed(enter, members, me, member) && !has_entered(register, member, comm, instance)
+    needs(enter, members, me, member) && !has_entered(register, member, comm, instance)
 }
 
 /// Whether a rank has entered an instance.
@@ -146,26 +145,4 @@ fn has_entered(register: &Register, rank: u8, comm: Comm, instance: u32) -> bool
     ensures { (n : ℕ) (events : List EventSpec) → IsRegister n events register.now → result ≡ is_some (enter_at n (view_of events rank) comm instance) }
 {
     instance < register.count_all_enters(rank, comm)
-}
-
-/// Whether the result of `me` needs what `who` entered, of whatever Enter and members.
-fn is_needed(enter: &Call, members: &Ranks, me: u8, who: u8) -> bool
-    ensures { result ≡ needs enter.now members.now me who }
-{
-    let Call::Enter {
-        kind,
-        root,
-        ints,
-        ..
-    } = enter
-    else {
-        return false;
-    };
-    match kind {
-        Kind::Barrier | Kind::Allreduce | Kind::Allgather | Kind::Alltoall | Kind::Dup => true,
-        Kind::Bcast | Kind::Scatter => is_root(root, who) || who == me,
-        Kind::Reduce | Kind::Gather => is_root(root, me) || who == me,
-        Kind::Scan => place_of(members.as_slice(), who) <= place_of(members.as_slice(), me),
-        Kind::Split => colour_in(ints) != UNDEFINED || who == me,
-    }
 }

@@ -2,7 +2,7 @@
 ghost use Rattle.std.specs.Prelude.{◌≡◌, ◌||◌, ◌+◌, ◌<◌, ◌^◌, ◌++◌, ◌∷◌, [], IfOk, OnOk, ℕ};
 ghost use Rattle.run_model.specs.Program.{ends};
 ghost use Rattle.run_model.specs.Views.{View};
-ghost use Rattle.wait_graph.specs.Register.{IsOwn, count_start};
+ghost use Rattle.wait_graph.specs.Register.{IsRankRecord, count_start};
 
 use crate::taken::LastTaken;
 use mpi_call::call::Call;
@@ -13,7 +13,7 @@ use std::alloc::{AllocError, Global};
 
 /// What is kept of a rank: its starts and communicators, what it took, how many calls and starts it made, and whether it has ended.
 #[derive(Drop)]
-pub struct Own<'a> {
+pub struct RankRecord<'a> {
     pub known: Known<'a>,
     pub taken: LastTaken,
     pub calls: u32,
@@ -21,12 +21,12 @@ pub struct Own<'a> {
     pub has_ended: bool,
 }
 
-impl<'a> Own<'a> {
+impl<'a> RankRecord<'a> {
     /// A rank of n before its first call.
     pub fn new(alloc: Global, n: u8) -> Result<Self, AllocError>
-        ensures { IfOk result (IsOwn n []) }
+        ensures { IfOk result (IsRankRecord n []) }
     {
-        Ok(Own {
+        Ok(RankRecord {
             known: Known::new(alloc, n)?,
             taken: LastTaken::new(alloc),
             calls: 0,
@@ -39,7 +39,7 @@ impl<'a> Own<'a> {
     pub fn note(&mut self, call: &'a Call, reply: &Reply) -> Result<(), AllocError>
         requires calls { self.old.calls + 1 < 2 ^ 32 }
         requires starts { self.old.starts + 1 < 2 ^ 32 }
-        ensures { OnOk result ((n : ℕ) (view : View) → IsOwn n view self.old → IsOwn n (view ++ (call.now, reply.now) ∷ []) self.new) }
+        ensures { OnOk result ((n : ℕ) (view : View) → IsRankRecord n view self.old → IsRankRecord n (view ++ (call.now, reply.now) ∷ []) self.new) }
     {
         self.taken.note(&self.known, self.calls, call, reply)?;
         self.known.note(call, reply)?;

@@ -2,7 +2,7 @@
 ghost use Rattle.std.specs.Prelude.{◌≡◌, ◌||◌, ◌==◌, ◌<◌, [], OnOk, ℕ, length};
 ghost use Rattle.msg_races.specs.declared.names.Name.{Name as NameSpec};
 ghost use Rattle.msg_races.specs.Names.{same_start};
-ghost use Rattle.wait_graph.specs.Names.{is_either};
+ghost use Rattle.wait_graph.specs.inside.Names.{is_either};
 ghost use Rattle.wait_graph.specs.Partners.{is_marked, is_paired_in};
 
 use msg_races::names::Name;

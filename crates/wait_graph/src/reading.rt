@@ -1,8 +1,9 @@
 //! A run up to where it was halted.
 ghost use Rattle.std.specs.Prelude.{◌≡◌, ◌<◌, ◌^◌, IfOk, length, option_map};
+ghost use Rattle.run_model.specs.Due.{stops};
 ghost use Rattle.causes.specs.Clocks.{AreOfRanks};
-ghost use Rattle.wait_graph.specs.Going.{first_call, halting, stops};
-ghost use Rattle.wait_graph.specs.Reading.{IsRead};
+ghost use Rattle.wait_graph.specs.Going.{first_call, halting};
+ghost use Rattle.wait_graph.specs.Reading.{IsRunRead};
 ghost use Rattle.run_model.specs.Views.{view_of};
 
 use crate::register::Register;
@@ -22,7 +23,7 @@ pub struct Run<'a> {
 pub fn read<'a>(alloc: Global, n: u8, events: &'a [Event]) -> Result<Run<'a>, AllocError>
     requires ranks { AreOfRanks n events.now }
     requires short { length events.now < 2 ^ 32 }
-    ensures { IfOk result (IsRead n events.entry.now) }
+    ensures { IfOk result (IsRunRead n events.entry.now) }
 {
     let mut register = Register::new(alloc, n)?;
     let mut rest = events;

@@ -6,11 +6,11 @@ ghost use Rattle.run_model.specs.Pairs.{pairs_of, partner_of};
 ghost use Rattle.run_model.specs.Views.{start_at, starts_of, view_of};
 ghost use Rattle.wait_graph.specs.Register.{IsRegister, count_one, earlier_in, named_by};
 ghost use Rattle.wait_graph.specs.Graph.{is_live};
-ghost use Rattle.wait_graph.specs.Opens.{first_open, listed_open, open_at, open_from, opens_of, opens_to};
+ghost use Rattle.wait_graph.specs.Opens.{first_open_send, listed_open, open_send, open_send_from, opens_of, opens_to};
 ghost use Rattle.wait_graph.specs.Taken.{taken_last};
 
 use crate::message::{Open, Opens, Taken};
-use crate::own::Own;
+use crate::own::RankRecord;
 use crate::partners::Partners;
 use mpi_call::call::{Call, Comm, Tag};
 use mpi_call::lists::Ranks;
@@ -23,7 +23,7 @@ use std::alloc::{AllocError, Global};
 /// What is kept of each rank, the name of the start at each position, and the starts that are paired.
 #[derive(Drop)]
 pub struct Register<'a> {
-    ranks: Vec<Own<'a>>,
+    ranks: Vec<RankRecord<'a>>,
     names: Vec<Option<Name>>,
     partners: Partners,
 }
@@ -35,7 +35,7 @@ impl<'a> Register<'a> {
     {
         let mut ranks = Vec::new(alloc);
         for _ in 0..n {
-            ranks.push(Own::new(alloc, n)?)?;
+            ranks.push(RankRecord::new(alloc, n)?)?;
         }
         Ok(Register {
             ranks,
@@ -127,7 +127,7 @@ impl<'a> Register<'a> {
 
     /// The first Send of a rank to another that nobody has received.
     pub(crate) fn first_open(&self, sender: u8, receiver: u8) -> Option<Open>
-        ensures { (n : ℕ) (events : List EventSpec) → IsRegister n events self.now → result ≡ first_open events sender receiver }
+        ensures { (n : ℕ) (events : List EventSpec) → IsRegister n events self.now → result ≡ first_open_send events sender receiver }
     {
         match self.ranks.get(sender as usize) {
             Some(own) => self.first_open_below(sender, receiver, own.starts),
@@ -137,7 +137,7 @@ impl<'a> Register<'a> {
 
     /// The same, of the rank's starts below a number.
     fn first_open_below(&self, sender: u8, receiver: u8, below: u32) -> Option<Open>
-        ensures { (n : ℕ) (events : List EventSpec) → IsRegister n events self.now → result ≡ open_from events sender receiver 0 (take below (starts_of (view_of events sender))) }
+        ensures { (n : ℕ) (events : List EventSpec) → IsRegister n events self.now → result ≡ open_send_from events sender receiver 0 (take below (starts_of (view_of events sender))) }
     {
         let mut start = 0;
         while start < below {
@@ -155,7 +155,7 @@ impl<'a> Register<'a> {
 
     /// A start of a rank, with this number and call, where it is a Send to another rank that nobody has received.
     fn open_here(&self, sender: u8, receiver: u8, start: u32, call: &Call) -> Option<Open>
-        ensures { (n : ℕ) (events : List EventSpec) → IsRegister n events self.now → result ≡ open_at (is_some (partner_of (pairs_of events) (sender, start))) receiver (record { rank = sender; start = start }) call.now }
+        ensures { (n : ℕ) (events : List EventSpec) → IsRegister n events self.now → result ≡ open_send (is_some (partner_of (pairs_of events) (sender, start))) receiver (record { rank = sender; start = start }) call.now }
     {
         let name = Name {
             rank: sender,
@@ -223,7 +223,7 @@ fn named(event: &Event, name: Name) -> Option<Name>
 
 /// A start with this name and call, where it is a Send to a rank and is not paired.
 fn open_at(is_paired: bool, receiver: u8, name: Name, call: &Call) -> Option<Open>
-    ensures { result ≡ open_at is_paired receiver name call.now }
+    ensures { result ≡ open_send is_paired receiver name call.now }
 {
     match call {
         Call::Send {

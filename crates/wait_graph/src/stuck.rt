@@ -6,8 +6,8 @@ ghost use Rattle.run_model.specs.declared.event.Event.{Event as EventSpec};
 ghost use Rattle.run_model.specs.Lists.{world};
 ghost use Rattle.wait_graph.specs.Register.{IsRegister};
 ghost use Rattle.wait_graph.specs.Graph.{graph_of, has_no_hope, is_live, waits_for};
-ghost use Rattle.wait_graph.specs.Found.{IsFound, IsFoundAt, listed_blocked};
-ghost use Rattle.wait_graph.specs.Reading.{IsRead};
+ghost use Rattle.wait_graph.specs.inside.Found.{IsRankFinding, IsFoundAt, listed_blocked};
+ghost use Rattle.wait_graph.specs.Reading.{IsRunRead};
 
 use crate::awaited::push_if;
 use crate::cycle::cycles_in;
@@ -25,7 +25,7 @@ use std::alloc::{AllocError, Global};
 
 /// What is found of a rank.
 #[derive(Drop)]
-pub struct Found {
+pub struct RankFinding {
     pub blocked: Option<Blocked>,
     pub next: Option<u8>,
     pub is_hopeless: bool,
@@ -68,13 +68,13 @@ fn push_some(all: &mut BlockedRanks, found: Option<Blocked>) -> Result<(), Alloc
 }
 
 /// What is found of a rank.
-fn find(alloc: Global, ranks: &[u8], run: &Run, rank: u8) -> Result<Found, AllocError>
+fn find(alloc: Global, ranks: &[u8], run: &Run, rank: u8) -> Result<RankFinding, AllocError>
     requires { rank < length run.now.register.ranks.items }
-    ensures { IfOk result (λ found. (n : ℕ) (events : List EventSpec) → IsRead n events run.now → ranks.now ≡ world n 0 → IsFound n events rank found) }
+    ensures { IfOk result (λ found. (n : ℕ) (events : List EventSpec) → IsRunRead n events run.now → ranks.now ≡ world n 0 → IsRankFinding n events rank found) }
 {
     match first_call(run.stopped, rank) {
         Some(call) => find_at(alloc, ranks, &run.register, rank, call),
-        None => Ok(Found {
+        None => Ok(RankFinding {
             blocked: None,
             next: None,
             is_hopeless: false,
@@ -89,7 +89,7 @@ fn find_at(
     register: &Register,
     rank: u8,
     call: &Call,
-) -> Result<Found, AllocError>
+) -> Result<RankFinding, AllocError>
     requires { rank < length register.now.ranks.items }
     ensures { IfOk result (λ found. (n : ℕ) (events : List EventSpec) → IsRegister n events register.now → ranks.now ≡ world n 0 → IsFoundAt n events rank (Some call.now) found) }
 {
@@ -98,7 +98,7 @@ fn find_at(
     let is_hopeless = has_no_hope(register, waits.as_slice());
     let number = register.calls(rank);
     let call = call::copy_of(call)?;
-    Ok(Found {
+    Ok(RankFinding {
         blocked: Some(Blocked {
             rank,
             number,

@@ -1,12 +1,12 @@
 //! The messages that a rank took last.
 ghost use Rattle.std.specs.Map.{lookup};
 ghost use Rattle.std.specs.Prelude.{◌≡◌, ◌&&◌, ◌==◌, ◌++◌, ◌∷◌, [], OnOk, ℕ, None, Some, if◌then◌else◌, length, option_map, slice_index};
-ghost use Rattle.mpi_call.specs.Acceptance.{tag_agrees};
-ghost use Rattle.msg_races.specs.Ways.{tag_named, tag_of};
+ghost use Rattle.mpi_call.specs.Acceptance.{tag_agrees, tag_named};
+ghost use Rattle.msg_races.specs.Ways.{named_tag};
 ghost use Rattle.run_model.specs.Views.{View, start_at};
 ghost use Rattle.srr_entry.specs.Known.{IsKnownOf};
-ghost use Rattle.wait_graph.specs.declared.taken.Way.{Way as WaySpec};
-ghost use Rattle.wait_graph.specs.Taken.{AreTaken, after_got, after_items, after_message, after_reply, same_way, taken_last};
+ghost use Rattle.wait_graph.specs.declared.taken.InboundWay.{InboundWay as WaySpec};
+ghost use Rattle.wait_graph.specs.Taken.{AreTaken, taken_after_got, taken_after_items, after_message, taken_after_reply, asked_of, same_inbound_way, taken_last};
 
 use crate::message::Taken;
 use indexmap::IndexMap;
@@ -19,28 +19,28 @@ use std::marker::Model;
 
 /// How messages come to a rank: their sender and communicator, and their tag or any.
 #[derive(Clone, Copy, Hash)]
-pub struct Way {
+pub struct InboundWay {
     pub sender: u8,
     pub comm: Comm,
     /// None: any.
     pub tag: Option<u32>,
 }
 
-impl PartialEq for Way {
-    ghost use Rattle.wait_graph.specs.Taken.{same_way};
+impl PartialEq for InboundWay {
+    ghost use Rattle.wait_graph.specs.Taken.{same_inbound_way};
     ghost use Rattle.std.proofs.Common.{rules};
     ghost use Rattle.std.specs.Cmp.Rules.{comparing};
 
-    ghost eq = { same_way };
+    ghost eq = { same_inbound_way };
 
     ghost laws = { Prim.search (comparing, rules) depth 12 };
 
-    fn eq(&self, other: &Way) -> bool {
+    fn eq(&self, other: &InboundWay) -> bool {
         self.sender == other.sender && self.comm == other.comm && self.tag == other.tag
     }
 }
 
-impl Eq for Way {
+impl Eq for InboundWay {
     ghost use Rattle.std.proofs.Common.{rules};
     ghost use Rattle.std.specs.Cmp.Rules.{comparing};
 
@@ -50,15 +50,15 @@ impl Eq for Way {
 /// The messages that a rank took last, by the ways that they came.
 #[derive(Drop)]
 pub struct LastTaken {
-    values: IndexMap<Way, Taken>,
+    values: IndexMap<InboundWay, Taken>,
 }
 
 impl Model for LastTaken {
     ghost use Rattle.std.specs.Prelude.{List};
     ghost use Rattle.wait_graph.specs.declared.message.Taken.{Taken};
-    ghost use Rattle.wait_graph.specs.declared.taken.Way.{Way};
+    ghost use Rattle.wait_graph.specs.declared.taken.InboundWay.{InboundWay};
 
-    ghost Value = { List (Way × Taken) };
+    ghost Value = { List (InboundWay × Taken) };
 
     ghost view = { λ s. s.values.entries };
 }
@@ -77,24 +77,24 @@ impl LastTaken {
     pub fn get(&self, comm: Comm, tag: &Tag, sender: u8) -> Option<Taken>
         ensures { (own : View) → AreTaken own self.now → result ≡ taken_last own comm tag.now sender }
     {
-        self.last(&Way {
+        self.last(&InboundWay {
             sender,
             comm,
             tag: tag_named(tag),
         })
     }
 
-    fn last(&self, way: &Way) -> Option<Taken>
-        ensures { result ≡ lookup (same_way way.now) self.now }
+    fn last(&self, way: &InboundWay) -> Option<Taken>
+        ensures { result ≡ lookup (same_inbound_way way.now) self.now }
     {
         self.values.get(way).copied()
     }
 
     /// Adds a message for any tag.
     fn add_any(&mut self, comm: Comm, sender: u8, taken: Taken) -> Result<(), AllocError>
-        ensures { OnOk result ((way : WaySpec) → lookup (same_way way) self.new ≡ (if same_way (record { sender = sender; comm = comm; tag = None }) way then Some taken else lookup (same_way way) self.old)) }
+        ensures { OnOk result ((way : WaySpec) → lookup (same_inbound_way way) self.new ≡ (if same_inbound_way (record { sender = sender; comm = comm; tag = None }) way then Some taken else lookup (same_inbound_way way) self.old)) }
     {
-        let way = Way {
+        let way = InboundWay {
             sender,
             comm,
             tag: None,
@@ -111,9 +111,9 @@ impl LastTaken {
         tag: u32,
         taken: Taken,
     ) -> Result<(), AllocError>
-        ensures { OnOk result ((way : WaySpec) → lookup (same_way way) self.new ≡ (if same_way (record { sender = sender; comm = comm; tag = Some tag }) way then Some taken else lookup (same_way way) self.old)) }
+        ensures { OnOk result ((way : WaySpec) → lookup (same_inbound_way way) self.new ≡ (if same_inbound_way (record { sender = sender; comm = comm; tag = Some tag }) way then Some taken else lookup (same_inbound_way way) self.old)) }
     {
-        let way = Way {
+        let way = InboundWay {
             sender,
             comm,
             tag: Some(tag),
@@ -130,7 +130,7 @@ impl LastTaken {
         tag: u32,
         taken: Taken,
     ) -> Result<(), AllocError>
-        ensures { OnOk result ((way : WaySpec) → lookup (same_way way) self.new ≡ (if (comm == way.comm) && ((sender == way.sender) && tag_agrees (tag_of way.tag) tag) then Some taken else lookup (same_way way) self.old)) }
+        ensures { OnOk result ((way : WaySpec) → lookup (same_inbound_way way) self.new ≡ (if (comm == way.comm) && ((sender == way.sender) && tag_agrees (named_tag way.tag) tag) then Some taken else lookup (same_inbound_way way) self.old)) }
     {
         self.add_any(comm, sender, taken)?;
         self.add_tagged(comm, sender, tag, taken)
@@ -138,7 +138,7 @@ impl LastTaken {
 
     /// Adds what a receive on a communicator gave at a call.
     fn add_received(&mut self, number: u32, comm: Comm, got: &Got) -> Result<(), AllocError>
-        ensures { OnOk result ((way : WaySpec) → lookup (same_way way) self.new ≡ after_message way.comm (tag_of way.tag) way.sender number comm got.now (lookup (same_way way) self.old)) }
+        ensures { OnOk result ((way : WaySpec) → lookup (same_inbound_way way) self.new ≡ after_message (asked_of way.comm (named_tag way.tag) way.sender) number comm got.now (lookup (same_inbound_way way) self.old)) }
     {
         match got {
             Got::Message {
@@ -159,7 +159,7 @@ impl LastTaken {
 
     /// Adds what a start with this call gave.
     fn add_by_call(&mut self, number: u32, call: &Call, got: &Got) -> Result<(), AllocError>
-        ensures { OnOk result ((way : WaySpec) → lookup (same_way way) self.new ≡ after_got way.comm (tag_of way.tag) way.sender number (Some call.now) got.now (lookup (same_way way) self.old)) }
+        ensures { OnOk result ((way : WaySpec) → lookup (same_inbound_way way) self.new ≡ taken_after_got (asked_of way.comm (named_tag way.tag) way.sender) number (Some call.now) got.now (lookup (same_inbound_way way) self.old)) }
     {
         match call {
             Call::Post { comm, .. } => self.add_received(number, *comm, got),
@@ -169,7 +169,7 @@ impl LastTaken {
 
     /// Adds what a start gave at a call.
     fn add_got(&mut self, number: u32, start: Option<&Call>, got: &Got) -> Result<(), AllocError>
-        ensures { OnOk result ((way : WaySpec) → lookup (same_way way) self.new ≡ after_got way.comm (tag_of way.tag) way.sender number (option_map (λ call. call.now) start.entry) got.now (lookup (same_way way) self.old)) }
+        ensures { OnOk result ((way : WaySpec) → lookup (same_inbound_way way) self.new ≡ taken_after_got (asked_of way.comm (named_tag way.tag) way.sender) number (option_map (λ call. call.now) start.entry) got.now (lookup (same_inbound_way way) self.old)) }
     {
         match start {
             Some(call) => self.add_by_call(number, call, got),
@@ -185,7 +185,7 @@ impl LastTaken {
         starts: &[u32],
         item: &Item,
     ) -> Result<(), AllocError>
-        ensures { OnOk result ((n : ℕ) (own : View) → IsKnownOf n own known.now → (way : WaySpec) → lookup (same_way way) self.new ≡ after_got way.comm (tag_of way.tag) way.sender number (start_at own (slice_index starts.now item.now.index)) item.now.got (lookup (same_way way) self.old)) }
+        ensures { OnOk result ((n : ℕ) (own : View) → IsKnownOf n own known.now → (way : WaySpec) → lookup (same_inbound_way way) self.new ≡ taken_after_got (asked_of way.comm (named_tag way.tag) way.sender) number (start_at own (slice_index starts.now item.now.index)) item.now.got (lookup (same_inbound_way way) self.old)) }
     {
         let start = listed_start(starts, item.index);
         self.add_got(number, known.start(start), &item.got)
@@ -199,7 +199,7 @@ impl LastTaken {
         starts: &[u32],
         items: &[Item],
     ) -> Result<(), AllocError>
-        ensures { OnOk result ((n : ℕ) (own : View) → IsKnownOf n own known.now → (way : WaySpec) → lookup (same_way way) self.new ≡ after_items way.comm (tag_of way.tag) way.sender number own starts.now items.now (lookup (same_way way) self.old)) }
+        ensures { OnOk result ((n : ℕ) (own : View) → IsKnownOf n own known.now → (way : WaySpec) → lookup (same_inbound_way way) self.new ≡ taken_after_items (asked_of way.comm (named_tag way.tag) way.sender) number own starts.now items.now (lookup (same_inbound_way way) self.old)) }
     {
         let mut rest = items;
         while let [item, after @ ..] = rest {
@@ -217,7 +217,7 @@ impl LastTaken {
         call: &Call,
         reply: &Reply,
     ) -> Result<(), AllocError>
-        ensures { OnOk result ((n : ℕ) (own : View) → IsKnownOf n own known.now → (way : WaySpec) → lookup (same_way way) self.new ≡ after_reply way.comm (tag_of way.tag) way.sender number own call.now reply.now (lookup (same_way way) self.old)) }
+        ensures { OnOk result ((n : ℕ) (own : View) → IsKnownOf n own known.now → (way : WaySpec) → lookup (same_inbound_way way) self.new ≡ taken_after_reply (asked_of way.comm (named_tag way.tag) way.sender) number own call.now reply.now (lookup (same_inbound_way way) self.old)) }
     {
         match reply {
             Reply::Took(items) => match call {

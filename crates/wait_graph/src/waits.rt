@@ -2,7 +2,7 @@
 ghost use Rattle.std.specs.Prelude.{◌≡◌, ◌<◌, ◌++◌, ◌∷◌, [], ℕ, List, IfOk, None, OnOk, Some, length};
 ghost use Rattle.run_model.specs.declared.event.Event.{Event as EventSpec};
 ghost use Rattle.run_model.specs.Readiness.{is_ready};
-ghost use Rattle.run_model.specs.Views.{start_at, view_of};
+ghost use Rattle.run_model.specs.Views.{moment_at, start_at, view_of};
 ghost use Rattle.wait_graph.specs.Register.{IsRegister};
 ghost use Rattle.wait_graph.specs.Waits.{awaited_by, wait_at, waits_at, waits_in};
 
@@ -107,7 +107,7 @@ fn push_unready(
 /// Whether a start of a rank is ready, by for whom the rank waits with it.
 fn is_ready(register: &Register, me: u8, start: u32, call: &Call, awaited: &Ranks) -> bool
     ensures { (n : ℕ) (events : List EventSpec) → IsRegister n events register.now → awaited.now ≡ awaited_by n events me start call.now
-        → result ≡ is_ready n events me (view_of events me) start (Some call.now) }
+        → result ≡ is_ready (moment_at n events me) start (Some call.now) }
 {
     match call {
         Call::Send { sync, .. } => !*sync || register.is_paired(me, start),

@@ -17,6 +17,6 @@ IsLine text (Some line) rest = HasNoNewline line
 IsLine text None rest = (text ≡ []) × (rest ≡ [])
 
 -- the text is so many bytes and the rest; or it has fewer, and all is left
-abbrev pub IsTaken : List ℕ → ℕ → Option (List ℕ) → List ℕ → Type 0
-IsTaken text count (Some bytes) rest = (text ≡ bytes ++ rest) × (length bytes ≡ count)
-IsTaken text count None rest = (length text < count) × (rest ≡ text)
+abbrev pub IsPrefixTaken : List ℕ → ℕ → Option (List ℕ) → List ℕ → Type 0
+IsPrefixTaken text count (Some bytes) rest = (text ≡ bytes ++ rest) × (length bytes ≡ count)
+IsPrefixTaken text count None rest = (length text < count) × (rest ≡ text)

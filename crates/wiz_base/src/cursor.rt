@@ -1,6 +1,6 @@
 //! Line by line through a text.
 ghost use Rattle.std.specs.Prelude.{◌≡◌, ◌<◌, ⊤, MatchOption, option_copied, slice_index, take, length};
-ghost use Rattle.wiz_base.specs.Lines.{HasNoNewline, IsEndedLine, IsLine, IsTaken};
+ghost use Rattle.wiz_base.specs.Lines.{HasNoNewline, IsEndedLine, IsLine, IsPrefixTaken};
 
 use std::marker::Model;
 
@@ -58,7 +58,7 @@ impl<'a> Cursor<'a> {
 
     /// The next `count` bytes. If fewer are left, all is left as it was.
     pub fn take(&mut self, count: usize) -> Option<&'a [u8]>
-        ensures { IsTaken self.old count (option_copied result) self.new }
+        ensures { IsPrefixTaken self.old count (option_copied result) self.new }
     {
         let text = self.rest;
         if text.len() < count {

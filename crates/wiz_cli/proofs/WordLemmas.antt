@@ -8,9 +8,9 @@ use Rattle.wiz_words.specs.declared.command.RunWords.{RunWords}
 use Rattle.wiz_words.specs.Texts.{run_with_texts, with_texts}
 use Rattle.wiz_words.specs.Words.{AskFor, AskForOneThing, is_threaded, is_threaded_run}
 use Rattle.wiz_tool.specs.declared.failure.Failure.{Failure}
-use Rattle.wiz_tool.specs.Environment.{Environment, between}
+use Rattle.wiz_tool.specs.Environment.{Environment, around_of}
 use Rattle.wiz_tool.specs.Inputs.{Refused}
-use Rattle.wiz_tool.specs.Outcomes.{Outcome}
+use Rattle.wiz_tool.specs.Outcomes.{TaskOutcome}
 use Rattle.wiz_tool.specs.inside.Told.{IsFailureBy}
 use Rattle.wiz_cli.specs.Commands.{AskForSerially, task_of}
 use Rattle.wiz_task.specs.Tasks.{IsDoneFor}
@@ -56,10 +56,10 @@ none_serially words command one asks threaded other too =
 
 -- so they are refused
 pub refused_serially : (words : List Text) (command : Command Text) (before : Environment) (failure : Failure) → AskForOneThing → AskFor words command
-    → is_threaded command ≡ true → IsFailureBy (λ refused. refused ≡ refused_words) failure → EndsWords AskForSerially words (between before before) (Err failure)
+    → is_threaded command ≡ true → IsFailureBy (λ refused. refused ≡ refused_words) failure → EndsWords AskForSerially words (around_of before before) (Err failure)
 refused_serially words command before failure one asks threaded is =
     failed (IsRefusedForWords AskForSerially words before before)
-    (λ (outcome : Outcome). (other : Command Text) × AskForSerially words other × IsDoneFor (task_of other) before outcome) before before failure
+    (λ (outcome : TaskOutcome). (other : Command Text) × AskForSerially words other × IsDoneFor (task_of other) before outcome) before before failure
     (record { files = refl; out = refl })
     (weaken (λ (refused : Refused). refused ≡ refused_words) (IsRefusedForWords AskForSerially words before before)
     (λ refused same. inl (λ other too. none_serially words command one asks threaded other too, same)) failure is)

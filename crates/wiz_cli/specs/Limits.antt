@@ -2,13 +2,12 @@
 use Rattle.std.specs.Prelude.{◌≡◌}
 use Rattle.c_check_expr.specs.declared.constant.TheConstants.{MOST_ELEMENTS}
 use Rattle.c_grammar.specs.declared.limits.TheConstants.{MOST_DEPTHS}
-use Rattle.c_lex.specs.declared.limits.TheConstants.{GREATEST_NUMBER as GREATEST_LITERAL, MOST_BYTES}
+use Rattle.c_lex.specs.declared.limits.TheConstants.{GREATEST_LITERAL, MOST_BYTES}
 use Rattle.c_program.specs.declared.constants.TheConstants.{MOST_CALLS, MOST_CELLS, MOST_PRINTED, MOST_STEPS}
-use Rattle.log_bounds.specs.RunBounds.{log_limit}
 use Rattle.mpi_call.specs.declared.limits.TheConstants.{GREATEST_TAG, MOST_EVENTS, MOST_INTS, MOST_RANKS, MOST_RESULT_INTS, MOST_SIZE, MOST_STARTS}
-use Rattle.msg_races.specs.Names.{most_others}
+use Rattle.msg_races.specs.Names.{most_racing}
 use Rattle.other_picks.specs.declared.other.TheConstants.{MOST_OTHER_PICKS}
-use Rattle.srr_text.specs.declared.limits.TheConstants.{GREATEST_NUMBER, MOST_ENTRIES, MOST_PROGRAM_BYTES}
+use Rattle.srr_log.specs.declared.limits.TheConstants.{GREATEST_NUMBER, MOST_ENTRIES, MOST_LOG_BYTES, MOST_PROGRAM_BYTES}
 use Rattle.wiz_words.specs.Limits.{fewest_polls, fewest_ranks, fewest_rounds, fewest_states, greatest_call, greatest_rank, greatest_seed, greatest_start, most_polls, most_ranks, most_rounds, most_states, usual_polls, usual_states}
 use Rattle.wiz_tool.specs.Inputs.{order_limit, text_limit}
 use Rattle.wiz_runs.specs.declared.commands.picture.TheConstants.{MOST_DRAWN}
@@ -19,7 +18,7 @@ pub record AreTheLimits : Type 0 where
   -- of an order
   pub order : order_limit ≡ 8388608
   -- of a log
-  pub log : log_limit ≡ 134217728
+  pub log : MOST_LOG_BYTES ≡ 134217728
   -- a program's text: the most bytes
   pub bytes : MOST_BYTES ≡ 65536
   -- the greatest number
@@ -51,7 +50,7 @@ pub record AreTheLimits : Type 0 where
   -- events of this size together stop it
   pub size : MOST_SIZE ≡ 4194304
   -- the most others with which its races are listed
-  pub others : most_others ≡ 1000000
+  pub others : most_racing ≡ 1000000
   -- the most order files of its other picks
   pub other_picks : MOST_OTHER_PICKS ≡ 10000
   -- the most events of a picture as SVG

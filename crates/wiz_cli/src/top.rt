@@ -3,9 +3,9 @@ ghost use Rattle.std.specs.Prelude.{◌≡◌, false};
 ghost use Rattle.srr_replay.specs.Rounds.{IsReplayable};
 ghost use Rattle.wiz_cli.specs.Commands.{AskForSerially, IsReport, task_of};
 ghost use Rattle.wiz_cli.specs.Promises.{IsComplete, NeverDiverges, ShowsEveryRun};
-ghost use Rattle.wiz_logs.specs.declared.viewing.ask.View.TheVariants.{Changes, Places};
+ghost use Rattle.wiz_logs.specs.declared.viewing.ask.ReplayView.TheVariants.{Changes, Places};
 ghost use Rattle.wiz_cli.specs.inside.Ends.{AllowsBlocks, EndsWords, refused_words};
-ghost use Rattle.wiz_task.specs.inside.Ends.{Ends};
+ghost use Rattle.wiz_task.specs.inside.Ends.{EndsTask};
 ghost use Rattle.wiz_task.specs.inside.Recording.{CanRun};
 ghost use Rattle.wiz_tool.specs.inside.Told.{IsFailureBy};
 ghost use Rattle.wiz_tool.specs.Environment.{around};
@@ -17,7 +17,7 @@ use crate::serial::Serial;
 use crate::threaded::Threaded;
 use c_program::CProgram;
 use c_types::one_program;
-use explore::course::Bounds;
+use explore::course::SearchLimits;
 use explore::watch::{Silent, Watcher};
 use group_plan::one_reading;
 use msg_races::names::Name;
@@ -39,7 +39,7 @@ use wiz_logs::commands::show::show;
 use wiz_logs::commands::stats::stats;
 use wiz_logs::commands::view::view;
 use wiz_logs::replaying::make::replay_on_threads;
-use wiz_logs::viewing::ask::View;
+use wiz_logs::viewing::ask::ReplayView;
 use wiz_runs::commands::advise::advise;
 use wiz_runs::commands::check::check;
 use wiz_runs::commands::demo::demo;
@@ -65,10 +65,10 @@ pub fn wiz_serial<S: Store, K: Sink>(
     store: &mut S,
     out: &mut K,
 ) -> Report
-    ensures report { IsReport AskForSerially (texts words.now) (around S.told K.told store out) result }
-    ensures headline { ShowsEveryRun AskForSerially (texts words.now) (around S.told K.told store out) result }
-    ensures never_diverges { NeverDiverges AskForSerially (texts words.now) (around S.told K.told store out) result }
-    ensures complete { IsComplete AskForSerially (texts words.now) (around S.told K.told store out) result }
+    ensures report { IsReport AskForSerially (texts words.now) (around S.observed K.observed store out) result }
+    ensures headline { ShowsEveryRun AskForSerially (texts words.now) (around S.observed K.observed store out) result }
+    ensures never_diverges { NeverDiverges AskForSerially (texts words.now) (around S.observed K.observed store out) result }
+    ensures complete { IsComplete AskForSerially (texts words.now) (around S.observed K.observed store out) result }
 {
     let answered = answer_words(alloc, words, store, out);
     // Laws: arguments ask for one thing, and a program, a plan, an order or a log has one reading or one first fault, so that what is accepted
@@ -100,10 +100,10 @@ pub fn wiz<R: Threads + Wait + Sync, S: Store, K: Sink, G: Gate + Sync, W: Watch
     gate: &G,
     watcher: &mut W,
 ) -> Report
-    ensures report { IsReport AskFor (texts words.now) (around S.told K.told store out) result }
-    ensures headline { ShowsEveryRun AskFor (texts words.now) (around S.told K.told store out) result }
-    ensures never_diverges { NeverDiverges AskFor (texts words.now) (around S.told K.told store out) result }
-    ensures complete { IsComplete AskFor (texts words.now) (around S.told K.told store out) result }
+    ensures report { IsReport AskFor (texts words.now) (around S.observed K.observed store out) result }
+    ensures headline { ShowsEveryRun AskFor (texts words.now) (around S.observed K.observed store out) result }
+    ensures never_diverges { NeverDiverges AskFor (texts words.now) (around S.observed K.observed store out) result }
+    ensures complete { IsComplete AskFor (texts words.now) (around S.observed K.observed store out) result }
 {
     let answered = answer_words_on_threads(rt, alloc, words, store, out, gate, watcher);
     // Laws: arguments ask for one thing, and a program, a plan, an order or a log has one reading or one first fault, so that what is accepted
@@ -124,7 +124,7 @@ fn answer_words<'a, S: Store, K: Sink>(
     store: &mut S,
     out: &mut K,
 ) -> Result<Report, Failure<'a>>
-    ensures { EndsWords AskForSerially (texts words.now) (around S.told K.told store out) result }
+    ensures { EndsWords AskForSerially (texts words.now) (around S.observed K.observed store out) result }
 {
     let Some(command) = read_command(alloc, words)? else {
         return Err(refused_words());
@@ -152,7 +152,7 @@ fn answer_words_on_threads<
     gate: &G,
     watcher: &mut W,
 ) -> Result<Report, Failure<'a>>
-    ensures { EndsWords AskFor (texts words.now) (around S.told K.told store out) result }
+    ensures { EndsWords AskFor (texts words.now) (around S.observed K.observed store out) result }
 {
     let Some(command) = read_command(alloc, words)? else {
         return Err(refused_words());
@@ -199,7 +199,7 @@ fn answer_serially<'a, S: Store, K: Sink, W: Watcher>(
     requires serial { is_threaded (with_texts command) ≡ false }
     requires blocks { AllowsBlocks (with_texts command) }
     ensures serial { is_threaded (with_texts command.entry) ≡ false }
-    ensures ends { Ends (task_of (with_texts command.entry)) (around S.told K.told store out) result }
+    ensures ends { EndsTask (task_of (with_texts command.entry)) (around S.observed K.observed store out) result }
 {
     answer(alloc, command, store, out, &Serial, watcher)
 }
@@ -216,7 +216,7 @@ fn answer<'a, S: Store, K: Sink, R: Runner, W: Watcher>(
     requires blocks { AllowsBlocks (with_texts command) }
     requires threads { R.is_threaded ≡ is_threaded (with_texts command) }
     requires runs { R.runs runner.now }
-    ensures { Ends (task_of (with_texts command.entry)) (around S.told K.told store out) result }
+    ensures { EndsTask (task_of (with_texts command.entry)) (around S.observed K.observed store out) result }
 {
     match command {
         Command::Record { run, prefix } => record(alloc, &run, prefix, store, out, runner),
@@ -242,7 +242,7 @@ fn answer<'a, S: Store, K: Sink, R: Runner, W: Watcher>(
         Command::Watch { replay, rank, name } => {
             view(alloc, &replay, &changes(rank, name), store, out, runner)
         }
-        Command::At(replay) => view(alloc, &replay, &View::Snapshots, store, out, runner),
+        Command::At(replay) => view(alloc, &replay, &ReplayView::Snapshots, store, out, runner),
         Command::Where {
             replay,
             source,
@@ -254,22 +254,22 @@ fn answer<'a, S: Store, K: Sink, R: Runner, W: Watcher>(
             most,
             polls,
         } => {
-            let bounds = Bounds { most, polls };
+            let bounds = SearchLimits { most, polls };
             explore(alloc, &run, prefix, bounds, store, out, watcher)
         }
     }
 }
 
 /// What is asked about a variable of a rank.
-fn changes(rank: u8, name: &str) -> View<&str>
+fn changes(rank: u8, name: &str) -> ReplayView<&str>
     ensures { result ≡ Changes rank name.entry }
 {
-    View::Changes { rank, name }
+    ReplayView::Changes { rank, name }
 }
 
 /// What is asked about a message.
-fn places(rank: u8, start: u32) -> View<&'static str>
+fn places(rank: u8, start: u32) -> ReplayView<&'static str>
     ensures { result ≡ Places (record { rank = rank; start = start }) }
 {
-    View::Places(Name { rank, start })
+    ReplayView::Places(Name { rank, start })
 }

@@ -2,8 +2,8 @@
 use Rattle.std.specs.Prelude.{ℕ, List, [], ◌∷◌, ◌++◌, ◌+◌, ◌-◌, ◌^◌, min, Contains}
 
 -- a count raised by one, but for its last value, where it stands still
-abbrev pub one_more : ℕ → ℕ
-one_more count = min (count + 1) (2 ^ 64 - 1)
+abbrev pub raised_once : ℕ → ℕ
+raised_once count = min (count + 1) (2 ^ 64 - 1)
 
 -- the numbers of the calls that are to fail, and how many calls there were
 pub record Calls : Type 0 where
@@ -11,7 +11,7 @@ pub record Calls : Type 0 where
   pub made : ℕ
 
 abbrev pub with_one_more : Calls → Calls
-with_one_more calls = record calls { made = one_more calls.made }
+with_one_more calls = record calls { made = raised_once calls.made }
 
 abbrev pub with_failing : Calls → ℕ → Calls
 with_failing calls call = record calls { failing = calls.failing ++ call ∷ [] }

@@ -3,5 +3,5 @@ use Rattle.std.specs.BTreeMap.{get_by_text}
 use Rattle.wiz_io.specs.declared.file_table.FileTable.{FileTable}
 use Rattle.wiz_io.specs.Files.{Files}
 
-abbrev pub files_of : FileTable → Files
-files_of table = λ name. get_by_text table.files name
+abbrev pub files_in_table : FileTable → Files
+files_in_table table = λ name. get_by_text table.files name

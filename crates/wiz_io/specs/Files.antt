@@ -8,7 +8,7 @@ abbrev pub Files : Type 0
 Files = List ℕ → Option (List ℕ)
 
 -- what a store tells: the files, where it tells them, and how many reads and writes failed
-pub record FilesTold : Type 0 where
+pub record ObservedFiles : Type 0 where
   pub files : Option Files
   pub reads : ℕ
   pub writes : ℕ
@@ -18,20 +18,20 @@ abbrev pub HasRisen : ℕ → ℕ → Type 0
 HasRisen before now = min (before + 1) (2 ^ 64 - 1) ≤ now
 
 -- what is read of a file: its bytes, if there is one and it has not more than the limit
-abbrev pub IsRead : Option (List ℕ) → ℕ → Result (List ℕ) ReadFault → Type 0
-IsRead file limit (Ok bytes) = (file ≡ Some bytes) × (length bytes ≤ limit)
-IsRead file limit (Err Missing) = file ≡ None
-IsRead file limit (Err TooLong) = (bytes : List ℕ) × (file ≡ Some bytes) × (limit < length bytes)
-IsRead file limit (Err Failed) = Unit {0}
-IsRead file limit (Err NoMemory) = Unit {0}
+abbrev pub IsFileRead : Option (List ℕ) → ℕ → Result (List ℕ) ReadFault → Type 0
+IsFileRead file limit (Ok bytes) = (file ≡ Some bytes) × (length bytes ≤ limit)
+IsFileRead file limit (Err Missing) = file ≡ None
+IsFileRead file limit (Err TooLong) = (bytes : List ℕ) × (file ≡ Some bytes) × (limit < length bytes)
+IsFileRead file limit (Err Failed) = Unit {0}
+IsFileRead file limit (Err NoMemory) = Unit {0}
 
--- where files are told, each file of another name is as it was
+-- where files are observed, each file of another name is as it was
 abbrev pub ChangesOnly : Option Files → Option Files → List ℕ → Type 0
 ChangesOnly None after name = after ≡ None
 ChangesOnly (Some before) None name = ⊥
 ChangesOnly (Some before) (Some after) name = (other : List ℕ) → other ≢ name → after other ≡ before other
 
--- where files are told, the file of that name has these bytes
+-- where files are observed, the file of that name has these bytes
 abbrev pub HasFile : Option Files → List ℕ → List ℕ → Type 0
 HasFile None name bytes = Unit {0}
 HasFile (Some files) name bytes = files name ≡ Some bytes

@@ -5,9 +5,9 @@ use Rattle.wiz_io.specs.declared.fault.ReadFault.TheVariants.{Missing, TooLong, 
 use Rattle.wiz_io.specs.declared.fault.WriteFault.{WriteFault}
 use Rattle.wiz_io.specs.declared.fault.WriteFault.TheVariants.{Failed as WriteFailed, NoMemory as WriteNoMemory}
 use Rattle.wiz_io.specs.declared.memory.MemoryStore.{MemoryStore}
-use Rattle.wiz_io.specs.Calls.{Calls, no_calls, one_more, with_one_more}
+use Rattle.wiz_io.specs.Calls.{Calls, no_calls, raised_once, with_one_more}
 use Rattle.wiz_io.specs.Files.{Files}
-use Rattle.wiz_io.specs.FileTable.{files_of}
+use Rattle.wiz_io.specs.FileTable.{files_in_table}
 
 -- the files, the calls that are to fail and how many there were, and how many reads and writes failed
 pub record Memory : Type 0 where
@@ -18,7 +18,7 @@ pub record Memory : Type 0 where
 
 abbrev pub memory_of : MemoryStore → Memory
 memory_of store = record {
-  files = files_of store.table;
+  files = files_in_table store.table;
   calls = store.failures;
   read_faults = store.read_faults;
   write_faults = store.write_faults;
@@ -33,7 +33,7 @@ abbrev pub read_faults_after : ℕ → Result (List ℕ) ReadFault → ℕ
 read_faults_after faults (Ok bytes) = faults
 read_faults_after faults (Err Missing) = faults
 read_faults_after faults (Err TooLong) = faults
-read_faults_after faults (Err ReadFailed) = one_more faults
+read_faults_after faults (Err ReadFailed) = raised_once faults
 read_faults_after faults (Err ReadNoMemory) = faults
 
 abbrev pub after_read : Memory → Result (List ℕ) ReadFault → Memory
@@ -45,7 +45,7 @@ after_read memory result = record memory {
 -- after a write that leaves these files: one more call, and one more fault where it failed
 abbrev pub write_faults_after : {T : Type 0} → ℕ → Result T WriteFault → ℕ
 write_faults_after faults (Ok done) = faults
-write_faults_after faults (Err WriteFailed) = one_more faults
+write_faults_after faults (Err WriteFailed) = raised_once faults
 write_faults_after faults (Err WriteNoMemory) = faults
 
 abbrev pub after_write : {T : Type 0} → Memory → Files → Result T WriteFault → Memory

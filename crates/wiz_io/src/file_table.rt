@@ -1,7 +1,7 @@
 //! Files in memory, by name.
 ghost use Rattle.std.specs.Prelude.{◌≡◌, OnOk, OnErr, None, IsErrOf, option_copied, ℕ, List};
-ghost use Rattle.wiz_io.specs.Files.{IsRead, SetsFile};
-ghost use Rattle.wiz_io.specs.FileTable.{files_of};
+ghost use Rattle.wiz_io.specs.Files.{IsFileRead, SetsFile};
+ghost use Rattle.wiz_io.specs.FileTable.{files_in_table};
 
 use crate::fault::ReadFault;
 use std::alloc::{AllocError, Global};
@@ -17,7 +17,7 @@ pub struct FileTable {
 
 impl FileTable {
     pub fn new(alloc: Global) -> Self
-        ensures { (name : List ℕ) → files_of result name ≡ None }
+        ensures { (name : List ℕ) → files_in_table result name ≡ None }
     {
         FileTable {
             alloc,
@@ -28,8 +28,8 @@ impl FileTable {
     /// Sets a file.
     pub fn set(&mut self, name: &str, bytes: &[u8]) -> Result<(), AllocError>
         ensures ok { OnOk result
-            (SetsFile (files_of self.old) (files_of self.new) name.now bytes.now) }
-        ensures err { OnErr result (files_of self.new ≡ files_of self.old) }
+            (SetsFile (files_in_table self.old) (files_in_table self.new) name.now bytes.now) }
+        ensures err { OnErr result (files_in_table self.new ≡ files_in_table self.old) }
     {
         let key = String::from_str(self.alloc, name)?;
         let value = Bytes::from_slice(self.alloc, bytes)?;
@@ -39,14 +39,14 @@ impl FileTable {
 
     /// The bytes of a file, where there is one.
     pub fn get(&self, name: &str) -> Option<&Bytes>
-        ensures { option_copied result ≡ files_of self.now name.now }
+        ensures { option_copied result ≡ files_in_table self.now name.now }
     {
         self.files.get(name)
     }
 
     /// A copy of the bytes of a file of at most `limit` bytes.
     pub fn read(&self, name: &str, limit: u64) -> Result<Bytes, ReadFault>
-        ensures read { IsRead (files_of self.now name.now) limit result }
+        ensures read { IsFileRead (files_in_table self.now name.now) limit result }
         ensures no_fault { IsErrOf result ReadFault.Failed → ⊥ }
     {
         let Some(bytes) = self.get(name) else {

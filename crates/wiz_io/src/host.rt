@@ -41,7 +41,7 @@ impl<'r, R: Files + AllocGlobal> HostStore<'r, R> {
 }
 
 impl<'r, R: Files + AllocGlobal> Store for HostStore<'r, R> {
-    ghost told = { λ s. record { files = None; reads = s.reads; writes = s.writes } };
+    ghost observed = { λ s. record { files = None; reads = s.reads; writes = s.writes } };
 
     fn read(&mut self, name: &str, limit: u64) -> Result<Bytes, ReadFault> {
         match read_up_to(self.rt, name, limit.saturating_add(1)) {
@@ -106,7 +106,7 @@ impl<'r, R: Print> HostSink<'r, R> {
 }
 
 impl<'r, R: Print> Sink for HostSink<'r, R> {
-    ghost told = { λ s. record { bytes = None; faults = s } };
+    ghost observed = { λ s. record { bytes = None; faults = s } };
 
     fn put(&mut self, bytes: &[u8]) -> Result<(), PutFault> {
         match io::writer(self.rt).write_all(bytes) {

@@ -1,7 +1,7 @@
 //! Files and an output in memory, whose calls fail where that was asked for.
 ghost use Rattle.std.specs.Prelude.{◌≡◌, ◌≢◌, ◌↔◌, ◌++◌, ◌≤◌, [], None, Some, ℕ, List, OnOk, OnErr, IsErrOf, option_copied};
 ghost use Rattle.wiz_io.specs.Calls.{IsNextFailing, no_calls, with_failing};
-ghost use Rattle.wiz_io.specs.Files.{IsRead, SetsFile};
+ghost use Rattle.wiz_io.specs.Files.{IsFileRead, SetsFile};
 ghost use Rattle.wiz_io.specs.Memory.{memory_of, new_memory, after_read, after_write};
 ghost use Rattle.wiz_io.specs.Output.{after_put};
 
@@ -67,12 +67,12 @@ impl MemoryStore {
 }
 
 impl Store for MemoryStore {
-    ghost told = { λ s. record { files = Some (memory_of s).files; reads = s.read_faults; writes = s.write_faults } };
+    ghost observed = { λ s. record { files = Some (memory_of s).files; reads = s.read_faults; writes = s.write_faults } };
 
     /// Fails if and only if the call was named.
     fn read(&mut self, name: &str, limit: u64) -> Result<Bytes, ReadFault>
         ensures fails { IsErrOf result ReadFault.Failed ↔ IsNextFailing (memory_of self.old).calls }
-        ensures read { IsRead ((memory_of self.old).files name.now) limit result }
+        ensures read { IsFileRead ((memory_of self.old).files name.now) limit result }
         ensures after { memory_of self.new ≡ after_read (memory_of self.old) result }
         ensures later { (memory_of self.old).read_faults ≤ (memory_of self.new).read_faults }
     {
@@ -113,9 +113,9 @@ pub struct MemorySink {
 }
 
 impl Model for MemorySink {
-    ghost use Rattle.wiz_io.specs.Output.{Output};
+    ghost use Rattle.wiz_io.specs.Output.{MemoryOutput};
 
-    ghost Value = { Output };
+    ghost Value = { MemoryOutput };
 
     ghost view = { λ s. record { bytes = s.out; calls = s.failures; faults = s.faults } };
 }
@@ -149,7 +149,7 @@ impl MemorySink {
 }
 
 impl Sink for MemorySink {
-    ghost told = { λ s. record { bytes = Some s.bytes; faults = s.faults } };
+    ghost observed = { λ s. record { bytes = Some s.bytes; faults = s.faults } };
 
     /// Fails if and only if the put was named. A refused put writes nothing.
     fn put(&mut self, bytes: &[u8]) -> Result<(), PutFault>

@@ -1,6 +1,6 @@
 //! Files and an output in memory that never fail: their counts of faults are the constant 0.
 ghost use Rattle.std.specs.Prelude.{◌≡◌, ◌≢◌, ◌++◌, [], None, Some, ℕ, List, OnOk, OnErr, IsErrOf, option_copied};
-ghost use Rattle.wiz_io.specs.Files.{IsRead, SetsFile};
+ghost use Rattle.wiz_io.specs.Files.{IsFileRead, SetsFile};
 ghost use Rattle.wiz_io.specs.Sure.{sure_files};
 
 use crate::fault::{PutFault, ReadFault, WriteFault};
@@ -44,10 +44,10 @@ impl SureStore {
 }
 
 impl Store for SureStore {
-    ghost told = { λ s. record { files = Some (sure_files s); reads = 0; writes = 0 } };
+    ghost observed = { λ s. record { files = Some (sure_files s); reads = 0; writes = 0 } };
 
     fn read(&mut self, name: &str, limit: u64) -> Result<Bytes, ReadFault>
-        ensures read { IsRead (sure_files self.old name.now) limit result }
+        ensures read { IsFileRead (sure_files self.old name.now) limit result }
         ensures files { sure_files self.new ≡ sure_files self.old }
         ensures no_fault { IsErrOf result ReadFault.Failed → ⊥ }
     {
@@ -99,7 +99,7 @@ impl SureSink {
 }
 
 impl Sink for SureSink {
-    ghost told = { λ s. record { bytes = Some s; faults = 0 } };
+    ghost observed = { λ s. record { bytes = Some s; faults = 0 } };
 
     /// A refused put writes nothing.
     fn put(&mut self, bytes: &[u8]) -> Result<(), PutFault>

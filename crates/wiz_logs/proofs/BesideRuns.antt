@@ -16,9 +16,9 @@ use Rattle.run_model.specs.declared.lists.Variable.{Variable}
 use Rattle.srr_entry.specs.declared.log.Log.{Log}
 use Rattle.srr_log2.proofs.FormatLaws.{one_log}
 use Rattle.wiz_tool.specs.declared.status.Status.TheVariants.{Done, Starved}
-use Rattle.wiz_logs.specs.Logs.{AreLogsOf, IsLogOf, program_text}
+use Rattle.wiz_logs.specs.Logs.{AreLogsOf, IsLogOf, asked_program}
 use Rattle.wiz_task.specs.Replayings.{IsReplayOf}
-use Rattle.wiz_tool.specs.Statuses.{is_at_break, is_diverged, is_starved, number_of, of_stands}
+use Rattle.wiz_tool.specs.Statuses.{is_at_break, is_diverged, is_starved, status_number, of_stands}
 
 -- ---- stands beside a run
 
@@ -83,8 +83,8 @@ done_beside text log stop replayed program run is is_program with =
     stands_are_done replayed.ends of.agrees of.starved
 
 pub replay_is_done : (stop : Breakpoint) (texts : List (List ℕ)) (held : Log) (replayed : Replayed) (log : Log) (program : Program) (run : List Event)
-    → IsLogOf texts held → IsLogOf texts log → IsReplayOf (program_text texts held) held stop replayed
-    → IsProgramOf (program_text texts log) program → IsRunWith (next_of program) log run → number_of (of_stands replayed.ends) ≡ number_of Done
+    → IsLogOf texts held → IsLogOf texts log → IsReplayOf (asked_program texts held) held stop replayed
+    → IsProgramOf (asked_program texts log) program → IsRunWith (next_of program) log run → status_number (of_stands replayed.ends) ≡ status_number Done
 replay_is_done stop texts held replayed log program run is_held is_log is is_program with =
     let same : log ≡ held = one_log_of texts log held is_log is_held in
-    ap number_of (done_beside (program_text texts held) held stop replayed program run is (rw same at is_program) (rw same at with))
+    ap status_number (done_beside (asked_program texts held) held stop replayed program run is (rw same at is_program) (rw same at with))

@@ -12,8 +12,8 @@ use Rattle.mpi_call.specs.Lists.{IsIn}
 use Rattle.mpi_call.specs.Members.{is_member}
 use Rattle.replay_model.specs.declared.replayed.Replayed.{Replayed}
 use Rattle.replay_model.specs.declared.replayed.Stand.{Stand}
-use Rattle.replay_model.specs.Laws.{IsDone, IsRunWith}
-use Rattle.replay_model.specs.Replays.{Breakpoint, IsStep, IsWholeReplay, Replays}
+use Rattle.replay_model.specs.Laws.{IsStandAtEnd, IsRunWith}
+use Rattle.replay_model.specs.Replays.{Breakpoint, IsReplayStep, IsWholeReplay, Replays}
 use Rattle.replay_model.proofs.Cut.{HasAllOf-whole}
 use Rattle.run_model.specs.declared.event.Event.{Event}
 use Rattle.run_model.specs.Views.{Next, replies_in}
@@ -22,8 +22,8 @@ use Rattle.srr_entry.specs.declared.log.Log.{Log}
 use Rattle.srr_replay.specs.Rounds.{IsReplayable}
 use Rattle.srr_replay.proofs.LogLemmas.{below_at}
 use Rattle.view_diff.specs.declared.compared.Compared.{Compared}
-use Rattle.view_diff.specs.declared.compared.Way.{Way}
-use Rattle.view_diff.specs.declared.compared.Way.TheVariants.{Alike, First, Follows}
+use Rattle.view_diff.specs.declared.compared.ViewRelation.{ViewRelation}
+use Rattle.view_diff.specs.declared.compared.ViewRelation.TheVariants.{Alike, First, Follows}
 use Rattle.view_diff.specs.Bare.{bares}
 use Rattle.view_diff.specs.Compared.{AreCompared, IsWay, comes_first, is_first_way}
 use Rattle.view_diff.specs.Comparing.{CanCompare}
@@ -34,12 +34,12 @@ use Rattle.wiz_tool.specs.declared.status.Status.{Status}
 use Rattle.wiz_tool.specs.declared.status.Status.TheVariants.{Done}
 use Rattle.wiz_tool.specs.declared.status.Status.TheVariants as s
 use Rattle.wiz_tool.specs.declared.report.Done.{Done as Told}
-use Rattle.wiz_tool.specs.inside.Told.{outcome_of}
+use Rattle.wiz_tool.specs.inside.Told.{outcome_written}
 use Rattle.wiz_trace.specs.TraceTexts.{traces_text}
 use Rattle.wiz_logs.specs.Regroupings.{traces_outcome}
 use Rattle.wiz_tool.specs.Environment.{Environment}
 use Rattle.wiz_tool.specs.Inputs.{AreHeld}
-use Rattle.wiz_tool.specs.Outcomes.{Outcome}
+use Rattle.wiz_tool.specs.Outcomes.{TaskOutcome}
 use Rattle.wiz_task.specs.Tasks.{IsDoneFor}
 use Rattle.wiz_logs.specs.Logs.{join_inputs, diff_requirements, logs_task}
 use Rattle.wiz_tool.specs.Statuses.{of_stands}
@@ -55,7 +55,7 @@ use Rattle.wiz_logs.proofs.RegroupLemmas.{done_stands, lawful}
 pub replay_ranks : (next : Next) (log : Log) (stop : Breakpoint) (events : List Event) → IsReplayable log → Replays next log stop events
     → AreOfRanks log.ranks events
 replay_ranks next log stop events is all =
-    Along-keeps (IsStep next log stop) (λ (before : List Event). AreOfRanks log.ranks before)
+    Along-keeps (IsReplayStep next log stop) (λ (before : List Event). AreOfRanks log.ranks before)
     (λ before event holds step. All-push (λ (e : Event). e.rank < log.ranks) before event holds (below_at log.ranks log.group event.rank is.below step.member))
     [] events (All-nil (λ (e : Event). e.rank < log.ranks)) all
 
@@ -90,13 +90,13 @@ replayed_runs texts runs first second is of too = record {
 
 -- where nothing parts, nothing parts first
 none_first : (n : ℕ) (group : List ℕ) (one other : List Event) (ranks : List Compared)
-    → ((rank : Compared) → IsIn rank ranks → IsWay n group one other rank.rank rank.same rank.way)
+    → ((rank : Compared) → IsIn rank ranks → IsWay n group one other rank)
     → ((rank number : ℕ) → PartAt group one other rank number → ⊥) → list_any comes_first ranks ≡ false
 none_first n group one other [] each never = refl
 none_first n group one other (rank ∷ ranks) each never =
     rw (head rank.way (each rank (inl refl)), none_first n group one other ranks (λ r at. each r (inr at)) never) refl
   where
-    head : (way : Way) → IsWay n group one other rank.rank rank.same way → is_first_way way ≡ false
+    head : (way : ViewRelation) → IsWay n group one other (record { rank = rank.rank; same = rank.same; way = way }) → is_first_way way ≡ false
     head Alike is = refl
     head First is = absurd (never rank.rank rank.same is.parts)
     head Follows is = refl
@@ -113,13 +113,13 @@ one_run_does_not_part program first second run one other group is too whole othe
     part.parting.differ (ap (λ view. slice_get (bares view) number) same)
 
 -- where both replays are done the comparison is told
-told_whole : (first second : Replayed) (ranks : List Compared) (outcome : Outcome) → All IsDone first.ends → All IsDone second.ends
+told_whole : (first second : Replayed) (ranks : List Compared) (outcome : TaskOutcome) → All IsStandAtEnd first.ends → All IsStandAtEnd second.ends
     → outcome ≡ diff_outcome first second ranks → outcome ≡ compared_outcome first second ranks
 told_whole first second ranks outcome done too is =
     is ∙ ap (λ (status : Status). diff_outcome_by status first second ranks)
-    (done_stands (first.ends ++ second.ends) (All-append IsDone first.ends second.ends done too))
+    (done_stands (first.ends ++ second.ends) (All-append IsStandAtEnd first.ends second.ends done too))
 
-same_status : (first second : Replayed) (ranks : List Compared) (outcome : Outcome) → outcome ≡ compared_outcome first second ranks
+same_status : (first second : Replayed) (ranks : List Compared) (outcome : TaskOutcome) → outcome ≡ compared_outcome first second ranks
     → list_any comes_first ranks ≡ false → outcome.status ≡ Done
 same_status first second ranks outcome is none = rw (is, none) refl
 
@@ -131,7 +131,7 @@ both_replay runs first second are = (
   (are.second_replay.shows (pure_program runs.program) (other_program runs.one runs.other (pure_program runs.program) are.can_compare are.is_program)).whole.replays,
 )
 
-pub compares : (runs : TwoRuns) (first second : Replayed) (ranks : List Compared) (outcome : Outcome) → AreReplayedRuns runs first second
+pub compares : (runs : TwoRuns) (first second : Replayed) (ranks : List Compared) (outcome : TaskOutcome) → AreReplayedRuns runs first second
     → AreCompared runs.one.ranks runs.one.group first.events.events second.events.events ranks
     → ((other : Program) → IsProgramOf runs.one.program other → pure_program runs.program ≡ other)
     → PartsByAReply (next_of (pure_program runs.program)) runs.one.ranks runs.one.group first.events.events second.events.events
@@ -169,7 +169,7 @@ compares runs first second ranks outcome are compared same parts alone is =
           (one_run_does_not_part program one other run first.events.events second.events.events can.group with too shows.whole others.whole));
     }
 
-pub diff_done : (name others : List ℕ) (before : Environment) (texts : List (List ℕ)) (runs : TwoRuns) (outcome : Outcome)
+pub diff_done : (name others : List ℕ) (before : Environment) (texts : List (List ℕ)) (runs : TwoRuns) (outcome : TaskOutcome)
     → AreHeld before.store.files (join_inputs name others) texts → AreTwoRunsOf texts runs → Compares runs.one runs.other outcome
     → IsDoneFor (logs_task name others diff_requirements Compares) before outcome
 diff_done name others before texts runs outcome held is compares = (texts, held, (runs.one, runs.other, is.are_logs, compares))
@@ -205,7 +205,7 @@ not_done s.Incomplete first second ranks apart = refl
 pub compared_is : (first second : Replayed) (ranks : List Compared) (both status : Status) (text : List ℕ) (replays : List Replayed) (done : Told) → both ≡ s.Done
     → both ≡ of_stands (first.ends ++ second.ends) → text ≡ diff_text first.events.events second.events.events ranks → status ≡ of_comparison ranks
     → replays ≡ first ∷ second ∷ [] → done ≡ record { text = text; status = status; run = None; replays = replays }
-    → outcome_of [] done ≡ diff_outcome first second ranks
+    → outcome_written [] done ≡ diff_outcome first second ranks
 compared_is first second ranks both status text replays done is_done is_both text_is status_is replays_is done_is =
     let stands : of_stands (first.ends ++ second.ends) ≡ s.Done = sym is_both ∙ is_done in
     rw (done_is, text_is, status_is, replays_is, stands) refl
@@ -213,7 +213,7 @@ compared_is first second ranks both status text replays done is_done is_both tex
 -- and else their traces
 pub traces_are : (first second : Replayed) (ranks : List Compared) (status : Status) (text : List ℕ) (replays : List Replayed) (done : Told) → (status ≡ s.Done → ⊥)
     → status ≡ of_stands (first.ends ++ second.ends) → replays ≡ first ∷ second ∷ [] → text ≡ traces_text replays
-    → done ≡ record { text = text; status = status; run = None; replays = replays } → outcome_of [] done ≡ diff_outcome first second ranks
+    → done ≡ record { text = text; status = status; run = None; replays = replays } → outcome_written [] done ≡ diff_outcome first second ranks
 traces_are first second ranks status text replays done apart is replays_is text_is done_is =
     let stands : of_stands (first.ends ++ second.ends) ≡ status = sym is in
     let told = not_done status first second ranks apart in

@@ -11,7 +11,7 @@ use Rattle.wiz_logs.specs.Regroupings.{part_file, part_files}
 use Rattle.wiz_tool.specs.inside.Told.{IsStopped}
 use Rattle.wiz_tool.proofs.FileLemmas.{AreApart, AreWritten-append, IsStopped-behind, names_of}
 use Rattle.wiz_tool.proofs.FileNames.{log_name-injective}
-use Rattle.wiz_io.specs.Files.{Files, FilesTold}
+use Rattle.wiz_io.specs.Files.{Files, ObservedFiles}
 
 -- a name that no later part has
 apart_from_parts : (prefix inside : List ℕ) (F : List ℕ → Log) (name : List ℕ) (k : ℕ) (parts : List (List ℕ)) → ((later : ℕ) → k ≤ later → name ≢ log_name prefix later)
@@ -49,7 +49,7 @@ parts_written prefix inside F k groups before mid after within first second =
     (AreWritten-append before mid after (part_file prefix inside F k (get_or groups k [])) (part_files prefix inside F (suc k) (drop (suc k) groups)) [] first (rw next second)
     (rw (append-nil (names_of (part_files prefix inside F (suc k) (drop (suc k) groups)))) (part_apart prefix inside F k (get_or groups k []) (drop (suc k) groups))))
 
-pub parts_stopped : (prefix inside : List ℕ) (F : List ℕ → Log) (k : ℕ) (groups : List (List ℕ)) (before mid after : FilesTold) (why : Unwritten)
+pub parts_stopped : (prefix inside : List ℕ) (F : List ℕ → Log) (k : ℕ) (groups : List (List ℕ)) (before mid after : ObservedFiles) (why : Unwritten)
     → k < length groups → AreWritten before.files mid.files (part_file prefix inside F k (get_or groups k [])) []
     → IsStopped mid after (part_files prefix inside F (k + 1) (drop (k + 1) groups)) why → before.writes ≤ mid.writes
     → IsStopped before after (part_files prefix inside F k (drop k groups)) why

@@ -7,14 +7,15 @@ use Rattle.c_program.specs.Tree.{Program}
 use Rattle.c_program.specs.laws.ProgramLaws.{asks_in_bounds, ends_exactly, enters_in_form}
 use Rattle.c_program.specs.Program.{next_of}
 use Rattle.c_types.specs.Checks.{IsProgramOf}
-use Rattle.group_plan.specs.Plans.{IsGroup}
-use Rattle.log_bounds.specs.RunBounds.{RepliesFit32, log_limit}
+use Rattle.group_plan.specs.Plans.{IsRisingGroup}
+use Rattle.log_bounds.specs.RunBounds.{RepliesFit32}
+use Rattle.srr_log.specs.declared.limits.TheConstants.{MOST_LOG_BYTES}
 use Rattle.log_bounds.proofs.LogBytes.{log_bytes_are_short}
 use Rattle.log_bounds.proofs.RunEntries.{InBounds}
 use Rattle.replay_model.specs.declared.replayed.Replayed.{Replayed}
 use Rattle.replay_model.specs.declared.replayed.Stand.{Stand}
 use Rattle.replay_model.specs.declared.replayed.Stand.TheVariants.{Ended, LogEnded, AtBreak, Diverged as HasDiverged, Starved as IsStarved}
-use Rattle.replay_model.specs.Laws.{IsDone}
+use Rattle.replay_model.specs.Laws.{IsStandAtEnd}
 use Rattle.run_model.specs.declared.event.Event.{Event}
 use Rattle.run_model.specs.Run.{IsRun}
 use Rattle.run_model.proofs.RunLaws.{Lawful}
@@ -25,11 +26,11 @@ use Rattle.srr_log2.specs.Formats.{IsTextOfLog}
 use Rattle.srr_log2.specs.LogBytes.{log_bytes}
 use Rattle.srr_regroup.specs.Joining.{CanJoin}
 use Rattle.srr_regroup.specs.Refining.{CanRefine}
-use Rattle.srr_regroup.specs.Regrouping.{IsPartOf, are_within, both_groups, joined, refined}
+use Rattle.srr_regroup.specs.Regrouping.{IsPartOf, are_within, both_groups, joined_log, refined}
 use Rattle.srr_regroup.proofs.Groups.{joined_is, refined_is}
 use Rattle.srr_regroup.proofs.LogBounds.{joined_bound, refined_bound}
 use Rattle.srr_replay.specs.Rounds.{IsReplayable}
-use Rattle.srr_text.specs.Bounds.{IsInBounds}
+use Rattle.srr_log.specs.Bounds.{IsInBounds}
 use Rattle.wiz_trace.specs.RegroupTexts.{joined_text, refined_text}
 use Rattle.wiz_logs.specs.declared.regrouping.subject.Pair.{Pair}
 use Rattle.wiz_logs.specs.declared.regrouping.subject.Refinement.{Refinement}
@@ -48,25 +49,25 @@ use Rattle.wiz_task.proofs.LogLemmas.{IsReplayable-text, bounds_of}
 
 -- ---- stands
 
-not_done_stand : {X : Type 0} (stand : Stand) → IsDone stand → (stand ≡ Ended → ⊥) → (stand ≡ LogEnded → ⊥) → X
+not_done_stand : {X : Type 0} (stand : Stand) → IsStandAtEnd stand → (stand ≡ Ended → ⊥) → (stand ≡ LogEnded → ⊥) → X
 not_done_stand stand is apart never = elim is [ inl h ↦ absurd (apart h) | inr h ↦ absurd (never h) ]
 
-none_left : (ends : List Stand) → All IsDone ends → (list_any is_diverged ends ≡ false) × (list_any is_starved ends ≡ false)
+none_left : (ends : List Stand) → All IsStandAtEnd ends → (list_any is_diverged ends ≡ false) × (list_any is_starved ends ≡ false)
 none_left [] all = (refl, refl)
-none_left (Ended ∷ ends) all = none_left ends (All-tail IsDone Ended ends all)
-none_left (LogEnded ∷ ends) all = none_left ends (All-tail IsDone LogEnded ends all)
-none_left (AtBreak variables ∷ ends) all = none_left ends (All-tail IsDone (AtBreak variables) ends all)
+none_left (Ended ∷ ends) all = none_left ends (All-tail IsStandAtEnd Ended ends all)
+none_left (LogEnded ∷ ends) all = none_left ends (All-tail IsStandAtEnd LogEnded ends all)
+none_left (AtBreak variables ∷ ends) all = none_left ends (All-tail IsStandAtEnd (AtBreak variables) ends all)
 none_left (HasDiverged divergence ∷ ends) all =
-    not_done_stand (HasDiverged divergence) (All-head IsDone (HasDiverged divergence) ends all) (λ h. cc) (λ h. cc)
+    not_done_stand (HasDiverged divergence) (All-head IsStandAtEnd (HasDiverged divergence) ends all) (λ h. cc) (λ h. cc)
 none_left (IsStarved missing ∷ ends) all =
-    not_done_stand (IsStarved missing) (All-head IsDone (IsStarved missing) ends all) (λ h. cc) (λ h. cc)
+    not_done_stand (IsStarved missing) (All-head IsStandAtEnd (IsStarved missing) ends all) (λ h. cc) (λ h. cc)
 
-pub done_stands : (ends : List Stand) → All IsDone ends → of_stands ends ≡ Done
+pub done_stands : (ends : List Stand) → All IsStandAtEnd ends → of_stands ends ≡ Done
 done_stands ends all = let none = none_left ends all in rw (none.0, none.1) refl
 
-all_done : (replays : List Replayed) → AllByRecursion (λ (replayed : Replayed). All IsDone replayed.ends) replays → All IsDone (stands_of replays)
-all_done [] all = All-nil IsDone
-all_done (replayed ∷ replays) all = All-append IsDone replayed.ends (stands_of replays) all.0 (all_done replays all.1)
+all_done : (replays : List Replayed) → AllByRecursion (λ (replayed : Replayed). All IsStandAtEnd replayed.ends) replays → All IsStandAtEnd (stands_of replays)
+all_done [] all = All-nil IsStandAtEnd
+all_done (replayed ∷ replays) all = All-append IsStandAtEnd replayed.ends (stands_of replays) all.0 (all_done replays all.1)
 
 done_with : (status : Status) (files made : List NamedFile) (text : List ℕ) (replays : List Replayed) → status ≡ Done → made ≡ files
     → AreShort files → IsDoneWith files (outcome_by status made text replays)
@@ -74,14 +75,14 @@ done_with status files made text replays done same short = rw (done, same) (refl
 
 -- ---- files
 
-same_part : (prefix inside : List ℕ) (F G : List ℕ → Log) (k : ℕ) (part : List ℕ) → IsGroup part → (IsPartOf inside part → F part ≡ G part)
+same_part : (prefix inside : List ℕ) (F G : List ℕ → Log) (k : ℕ) (part : List ℕ) → IsRisingGroup part → (IsPartOf inside part → F part ≡ G part)
     → part_file prefix inside F k part ≡ part_file prefix inside G k part
 same_part prefix inside F G k part is same = elim (test_cases (are_within inside part)) [
   | inl h ↦ let e = same (record { some = is.0; rises = is.1; within = h }) in rw (h, e) refl
   | inr h ↦ rw h refl
 ]
 
-same_parts : (prefix inside : List ℕ) (F G : List ℕ → Log) (k : ℕ) (parts : List (List ℕ)) → AllByRecursion IsGroup parts
+same_parts : (prefix inside : List ℕ) (F G : List ℕ → Log) (k : ℕ) (parts : List (List ℕ)) → AllByRecursion IsRisingGroup parts
     → ((part : List ℕ) → IsPartOf inside part → F part ≡ G part) → part_files prefix inside F k parts ≡ part_files prefix inside G k parts
 same_parts prefix inside F G k [] are same = refl
 same_parts prefix inside F G k (part ∷ parts) are same =
@@ -89,21 +90,21 @@ same_parts prefix inside F G k (part ∷ parts) are same =
 
 -- ---- texts
 
-hold_log : (prefix inside : List ℕ) (F : List ℕ → Log) (k : ℕ) (part : List ℕ) → IsGroup part → (IsPartOf inside part → IsInBounds (F part))
+hold_log : (prefix inside : List ℕ) (F : List ℕ → Log) (k : ℕ) (part : List ℕ) → IsRisingGroup part → (IsPartOf inside part → IsInBounds (F part))
     → HoldLog (F part) (part_file prefix inside F k part)
 hold_log prefix inside F k part is bounds = elim (test_cases (are_within inside part)) [
   | inl h ↦ rw h ((refl, bounds (record { some = is.0; rises = is.1; within = h })), tt)
   | inr h ↦ rw h tt
 ]
 
-hold_logs : (prefix inside : List ℕ) (F : List ℕ → Log) (k : ℕ) (parts : List (List ℕ)) → AllByRecursion IsGroup parts
+hold_logs : (prefix inside : List ℕ) (F : List ℕ → Log) (k : ℕ) (parts : List (List ℕ)) → AllByRecursion IsRisingGroup parts
     → ((part : List ℕ) → IsPartOf inside part → IsInBounds (F part)) → HoldTheirLogs prefix inside F k parts
 hold_logs prefix inside F k [] are bounds = tt
 hold_logs prefix inside F k (part ∷ parts) are bounds =
     (hold_log prefix inside F k part are.0 (bounds part), hold_logs prefix inside F (suc k) parts are.1 bounds)
 
-are_short : (prefix inside : List ℕ) (F : List ℕ → Log) (k : ℕ) (parts : List (List ℕ)) → AllByRecursion IsGroup parts
-    → ((part : List ℕ) → IsPartOf inside part → length (log_bytes (F part)) ≤ log_limit) → AreShort (part_files prefix inside F k parts)
+are_short : (prefix inside : List ℕ) (F : List ℕ → Log) (k : ℕ) (parts : List (List ℕ)) → AllByRecursion IsRisingGroup parts
+    → ((part : List ℕ) → IsPartOf inside part → length (log_bytes (F part)) ≤ MOST_LOG_BYTES) → AreShort (part_files prefix inside F k parts)
 are_short prefix inside F k [] are short = tt
 are_short prefix inside F k (part ∷ parts) are short =
     let rest = are_short prefix inside F (suc k) parts are.1 short in
@@ -153,12 +154,12 @@ lawful program = record { ends = ends_exactly program; enters = enters_in_form p
 
 -- the log of a run has a short text where it is within bounds
 run_log_short : (program : Program) (n : ℕ) (run : List Event) (text group : List ℕ) (made : Log) → IsRun (next_of program) n run
-    → made ≡ log_of text n run group → IsInBounds made → length (log_bytes (log_of text n run group)) ≤ log_limit
+    → made ≡ log_of text n run group → IsInBounds made → length (log_bytes (log_of text n run group)) ≤ MOST_LOG_BYTES
 run_log_short program n run text group made is same bounds =
     let laws : InBounds (next_of program) = record { lawful = lawful program; asks = asks_in_bounds program } in
     log_bytes_are_short (next_of program) n laws run group text is (subst IsInBounds same bounds)
 
-pub refines : (prefix : List ℕ) (log : Log) (groups : List (List ℕ)) (replayed : Replayed) → CanRefine log groups → AllByRecursion IsGroup groups
+pub refines : (prefix : List ℕ) (log : Log) (groups : List (List ℕ)) (replayed : Replayed) → CanRefine log groups → AllByRecursion IsRisingGroup groups
     → IsReplayOf log.program log None replayed → IsRegroupable log replayed.events.events → RepliesFit32 replayed.events.events
     → Refines prefix log groups (refine_outcome prefix log groups replayed)
 refines prefix log groups replayed can are is from words =
@@ -188,7 +189,7 @@ pub joins : (file : List ℕ) (one other : Log) (first second : Replayed) → Ca
     → IsReplayOf other.program other None second → AreJoinable one first.events.events other second.events.events
     → RepliesFit32 first.events.events → RepliesFit32 second.events.events → Joins file one other (join_outcome file one first other second)
 joins file one other first second can is too from words other_words =
-    let made : Log = joined one first.events.events other second.events.events in
+    let made : Log = joined_log one first.events.events other second.events.events in
     let bounds : IsInBounds made =
     joined_bound one first.events.events other second.events.events
     (record {
@@ -220,7 +221,7 @@ joins file one other first second can is too from words other_words =
     }
 
 pub refine_done : (name plan prefix : List ℕ) (before : Environment) (texts : List (List ℕ)) (refinement : Refinement) (replayed : Replayed)
-    → AreHeld before.store.files (refine_inputs name plan) texts → IsRefinementOf texts refinement → AllByRecursion IsGroup refinement.plan
+    → AreHeld before.store.files (refine_inputs name plan) texts → IsRefinementOf texts refinement → AllByRecursion IsRisingGroup refinement.plan
     → IsReplayOf refinement.log.program refinement.log None replayed → RepliesFit32 replayed.events.events
     → IsDoneFor (refine_task name plan prefix) before (refine_outcome prefix refinement.log refinement.plan replayed)
 refine_done name plan prefix before texts refinement replayed held is are of words = (

@@ -12,12 +12,12 @@ use Rattle.wiz_task.specs.Replayings.{IsReplayOf}
 use Rattle.wiz_tool.specs.Statuses.{of_stands}
 use Rattle.wiz_logs.specs.inside.Replaying.{IsSubjectOf, used_text}
 use Rattle.wiz_tool.specs.Environment.{Environment}
-use Rattle.wiz_io.specs.Output.{OutTold}
+use Rattle.wiz_io.specs.Output.{ObservedOutput}
 use Rattle.wiz_trace.specs.TraceTexts.{trace_text}
 use Rattle.wiz_tool.specs.declared.report.Report.{Report}
 
 -- a replay's trace and status make its outcome
-pub put_replay : (replayed : Replayed) (text : List ℕ) (status : Status) (replays : List Replayed) (before after : OutTold) (report : Report)
+pub put_replay : (replayed : Replayed) (text : List ℕ) (status : Status) (replays : List Replayed) (before after : ObservedOutput) (report : Report)
     → text ≡ trace_text replayed → status ≡ of_stands replayed.ends → replays ≡ replayed ∷ []
     → IsPut (record { files = []; text = text; status = status; run = None; replays = replays }) before after report
     → IsPut (replay_outcome replayed) before after report

@@ -1,18 +1,18 @@
 -- What is replayed.
 use Rattle.std.proofs.Common.{◌≡◌, ◌≤◌, ℕ, List, [], ◌∷◌, Option, Some, None, IfSome, refl, length}
+use Rattle.std.specs.Option.{option_to_list}
 use Rattle.srr_entry.specs.declared.log.Log.{Log}
-use Rattle.srr_text.specs.Bounds.{IsInBounds}
+use Rattle.srr_log.specs.Bounds.{IsInBounds}
 use Rattle.srr_log2.specs.Formats.{IsTextOfLog}
 use Rattle.wiz_trace.specs.StatsTexts.{IsCountable}
 use Rattle.wiz_trace.proofs.Countable.{countable_in_bounds}
 use Rattle.c_program.specs.View.{pure_program}
 use Rattle.c_types.specs.Checks.{IsProgramOf}
 use Rattle.wiz_logs.specs.declared.replaying.subject.Subject.{Subject}
-use Rattle.wiz_logs.specs.Logs.{IsLogOf, program_text}
+use Rattle.wiz_logs.specs.Logs.{IsLogOf, asked_program}
 use Rattle.wiz_io.specs.Files.{Files}
 use Rattle.wiz_tool.specs.Inputs.{AreHeld, option_input, text_limit}
 use Rattle.wiz_logs.specs.inside.Replaying.{IsSubjectOf, used_text}
-use Rattle.wiz_tool.specs.inside.Told.{listed}
 use Rattle.wiz_task.proofs.LogLemmas.{IsReplayable-text, bounds_of}
 
 -- it is within its bounds, and can be counted
@@ -30,12 +30,12 @@ pub used_short : (log : Log) (text : Option (List ℕ)) → length log.program �
 used_short log None short other = short
 used_short log (Some text) short other = other
 
-used_is : (bytes : List ℕ) (log : Log) (text : Option (List ℕ)) → used_text log text ≡ program_text (bytes ∷ listed text) log
+used_is : (bytes : List ℕ) (log : Log) (text : Option (List ℕ)) → used_text log text ≡ asked_program (bytes ∷ option_to_list text) log
 used_is bytes log None = refl
 used_is bytes log (Some text) = refl
 
 pub subject_of : (bytes : List ℕ) (text : Option (List ℕ)) (subject : Subject) → IsTextOfLog bytes subject.log → subject.text ≡ text
-    → IsProgramOf (used_text subject.log subject.text) (pure_program subject.program) → IsSubjectOf (bytes ∷ listed text) subject
+    → IsProgramOf (used_text subject.log subject.text) (pure_program subject.program) → IsSubjectOf (bytes ∷ option_to_list text) subject
 subject_of bytes text subject is same is_program = record {
   is_log = is;
   replayable = IsReplayable-text bytes subject.log is;
@@ -44,7 +44,7 @@ subject_of bytes text subject is same is_program = record {
 }
 
 -- an optional text is within its limit
-pub held_short : (files : Option Files) (name text : Option (List ℕ)) → AreHeld files (option_input text_limit name) (listed text)
+pub held_short : (files : Option Files) (name text : Option (List ℕ)) → AreHeld files (option_input text_limit name) (option_to_list text)
     → IfSome text (λ text. length text ≤ text_limit)
 held_short files name None held = tt
 held_short files None (Some text) held = absurd held

@@ -14,7 +14,7 @@ use Rattle.replay_model.specs.Replays.{Breakpoint}
 use Rattle.replay_views.specs.declared.changes.Change.{Change}
 use Rattle.replay_views.specs.declared.snapshot.Snapshot.{Snapshot}
 use Rattle.replay_views.specs.Cuts.{IsStepBack, ReplaysStepBack}
-use Rattle.replay_views.specs.Places.{Place, places_in}
+use Rattle.replay_views.specs.Places.{MessagePlace, places_in_view}
 use Rattle.replay_views.specs.Snapshots.{snapshot_of, snapshots_of}
 use Rattle.replay_views.specs.Watching.{Variables, changes_of, values_after}
 use Rattle.run_model.specs.declared.event.Event.{Event}
@@ -23,24 +23,24 @@ use Rattle.srr_entry.specs.declared.log.Log.{Log}
 use Rattle.srr_replay.specs.Rounds.{IsReplayable}
 use Rattle.srr_replay.proofs.ReplaysLemmas.{Came-Replays}
 use Rattle.wiz_logs.specs.declared.replaying.subject.Subject.{Subject}
-use Rattle.wiz_logs.specs.declared.viewing.ask.View.{View}
-use Rattle.wiz_logs.specs.declared.viewing.ask.View.TheVariants.{Changes, Places, Snapshots}
+use Rattle.wiz_logs.specs.declared.viewing.ask.ReplayView.{ReplayView}
+use Rattle.wiz_logs.specs.declared.viewing.ask.ReplayView.TheVariants.{Changes, Places, Snapshots}
 use Rattle.wiz_logs.specs.inside.Replaying.{IsSubjectOf, used_text}
 use Rattle.wiz_logs.specs.inside.Viewing.{HaveCome}
 use Rattle.wiz_task.specs.Tasks.{IsDoneFor}
 use Rattle.wiz_logs.specs.Logs.{replay_inputs, view_task}
 use Rattle.wiz_logs.proofs.BesideRuns.{done_beside}
 use Rattle.wiz_task.specs.Replayings.{IsReplayOf}
-use Rattle.wiz_logs.specs.Views.{TellsView, changes_in, told_outcome, told_text, view_outcome, view_outcome_by}
+use Rattle.wiz_logs.specs.Views.{TellsView, changes_in, done_view_outcome, reported_text, view_outcome, view_outcome_by}
 use Rattle.wiz_tool.specs.declared.report.Done.{Done as Told}
 use Rattle.wiz_tool.specs.declared.status.Status.{Status}
 use Rattle.wiz_tool.specs.declared.status.Status.TheVariants as s
 use Rattle.wiz_tool.specs.Environment.{Environment}
 use Rattle.wiz_tool.specs.Inputs.{AreHeld}
-use Rattle.wiz_tool.specs.Outcomes.{Outcome}
+use Rattle.wiz_tool.specs.Outcomes.{TaskOutcome}
 use Rattle.wiz_tool.specs.Statuses.{of_stands}
-use Rattle.wiz_tool.specs.inside.Told.{outcome_of}
-use Rattle.wiz_trace.specs.AtTexts.{at_text}
+use Rattle.wiz_tool.specs.inside.Told.{outcome_written}
+use Rattle.wiz_trace.specs.AtTexts.{snapshots_text}
 use Rattle.wiz_trace.specs.TraceTexts.{trace_text}
 use Rattle.wiz_trace.specs.WatchTexts.{watch_text}
 use Rattle.wiz_trace.specs.WhereTexts.{where_text}
@@ -67,8 +67,8 @@ status_by s.TooMany text replayed = refl
 status_by s.Parted text replayed = refl
 status_by s.Incomplete text replayed = refl
 
-pub view_status : (replayed : Replayed) (text : List ℕ) (outcome : Outcome) → outcome ≡ view_outcome text replayed → outcome.status ≡ of_stands replayed.ends
-view_status replayed text outcome is = ap (λ (o : Outcome). o.status) is ∙ status_by (of_stands replayed.ends) text replayed
+pub view_status : (replayed : Replayed) (text : List ℕ) (outcome : TaskOutcome) → outcome ≡ view_outcome text replayed → outcome.status ≡ of_stands replayed.ends
+view_status replayed text outcome is = ap (λ (o : TaskOutcome). o.status) is ∙ status_by (of_stands replayed.ends) text replayed
 
 not_done : (status : Status) (text : List ℕ) (replayed : Replayed) → (status ≡ s.Done → ⊥)
     → view_outcome_by status text replayed ≡ record { files = []; text = trace_text replayed; status = status; run = None; replays = replayed ∷ [] }
@@ -92,7 +92,7 @@ not_done s.Incomplete text replayed apart = refl
 
 -- what is asked is told where the replay is done
 pub asked_is : (replayed : Replayed) (whole text : List ℕ) (both : Status) (done : Told) → both ≡ s.Done → both ≡ of_stands replayed.ends → text ≡ whole
-    → done ≡ record { text = text; status = s.Done; run = None; replays = replayed ∷ [] } → outcome_of [] done ≡ view_outcome whole replayed
+    → done ≡ record { text = text; status = s.Done; run = None; replays = replayed ∷ [] } → outcome_written [] done ≡ view_outcome whole replayed
 asked_is replayed whole text both done is_done is_both text_is done_is =
     let stands : of_stands replayed.ends ≡ s.Done = sym is_both ∙ is_done in
     rw (done_is, text_is, stands) refl
@@ -100,7 +100,7 @@ asked_is replayed whole text both done is_done is_both text_is done_is =
 -- and else its trace
 pub trace_is : (replayed : Replayed) (whole text : List ℕ) (status : Status) (done : Told) → (status ≡ s.Done → ⊥) → status ≡ of_stands replayed.ends
     → text ≡ trace_text replayed → done ≡ record { text = text; status = status; run = None; replays = replayed ∷ [] }
-    → outcome_of [] done ≡ view_outcome whole replayed
+    → outcome_written [] done ≡ view_outcome whole replayed
 trace_is replayed whole text status done apart is text_is done_is =
     let stands : of_stands replayed.ends ≡ status = sym is in
     let told = not_done status whole replayed apart in
@@ -148,26 +148,26 @@ changes_alike program log rank name one other same = go (is_member log.group ran
     go true same = ap F (same refl)
     go false same = refl
 
-told_alike : (program : Program) (log : Log) (view : View (List ℕ)) (events others : List Event) (ends : List Stand)
-    → HaveSeenTheSame log.group (view_of events) (view_of others) → told_text program log view events ends ≡ told_text program log view others ends
+told_alike : (program : Program) (log : Log) (view : ReplayView (List ℕ)) (events others : List Event) (ends : List Stand)
+    → HaveSeenTheSame log.group (view_of events) (view_of others) → reported_text program log view events ends ≡ reported_text program log view others ends
 told_alike program log (Changes rank name) events others ends same =
     ap (λ (changes : List Change). watch_text rank name changes) (changes_alike program log rank name (view_of events) (view_of others) same)
 told_alike program log Snapshots events others ends same =
-    ap (λ (snapshots : List Snapshot). at_text snapshots) (snapshots_alike (next_of program) (variables_of program) log.ranks events others log.group ends same)
+    ap (λ (snapshots : List Snapshot). snapshots_text snapshots) (snapshots_alike (next_of program) (variables_of program) log.ranks events others log.group ends same)
 told_alike program log (Places name) events others ends same =
-    ap (λ (places : List Place). where_text name log.group places) (each_alike (places_in name) log.group (view_of events) (view_of others) same)
+    ap (λ (places : List MessagePlace). where_text name log.group places) (each_alike (places_in_view name) log.group (view_of events) (view_of others) same)
 
 -- ---- what is done
 
-pub tells : (text : List ℕ) (log : Log) (stop : Breakpoint) (view : View (List ℕ)) (program : Program) (replayed : Replayed) (outcome : Outcome)
+pub tells : (text : List ℕ) (log : Log) (stop : Breakpoint) (view : ReplayView (List ℕ)) (program : Program) (replayed : Replayed) (outcome : TaskOutcome)
     → IsProgramOf text program → IsReplayOf text log stop replayed → ((other : Program) → IsProgramOf text other → program ≡ other)
     → ((n : ℕ) (group : List ℕ) (V : ℕ → Seen) → IsStepBack n group V)
     → ((run : List Event) → IsRunWith (next_of program) log run → ReplaysStepBack (next_of program) log run)
-    → outcome ≡ view_outcome (told_text program log view replayed.events.events replayed.ends) replayed → TellsView text log stop view outcome
+    → outcome ≡ view_outcome (reported_text program log view replayed.events.events replayed.ends) replayed → TellsView text log stop view outcome
 tells text log stop view program replayed outcome is_program replay means law steps is =
-    let is_outcome : (other : Program) → IsProgramOf text other → outcome ≡ view_outcome (told_text other log view replayed.events.events replayed.ends) replayed =
+    let is_outcome : (other : Program) → IsProgramOf text other → outcome ≡ view_outcome (reported_text other log view replayed.events.events replayed.ends) replayed =
     λ other is_other.
-    is ∙ ap (λ (one : Program). view_outcome (told_text one log view replayed.events.events replayed.ends) replayed) (means other is_other) in
+    is ∙ ap (λ (one : Program). view_outcome (reported_text one log view replayed.events.events replayed.ends) replayed) (means other is_other) in
     record {
       replayed = replayed;
       replay = replay;
@@ -175,9 +175,9 @@ tells text log stop view program replayed outcome is_program replay means law st
       of_runs = λ whole other run is_other with.
           let seen = ((replay.shows other is_other).runs run with).views whole in
           is_outcome other is_other
-          ∙ ap (λ (status : Status). view_outcome_by status (told_text other log view replayed.events.events replayed.ends) replayed)
+          ∙ ap (λ (status : Status). view_outcome_by status (reported_text other log view replayed.events.events replayed.ends) replayed)
           (done_beside text log stop replayed other run replay is_other with)
-          ∙ ap (λ (told : List ℕ). told_outcome told replayed) (told_alike other log view replayed.events.events run replayed.ends seen);
+          ∙ ap (λ (told : List ℕ). done_view_outcome told replayed) (told_alike other log view replayed.events.events run replayed.ends seen);
       back = λ run. law log.ranks log.group (view_of run);
       steps = λ other run is_other with.
           subst (λ (one : Program). (run : List Event) → IsRunWith (next_of one) log run → ReplaysStepBack (next_of one) log run) (means other is_other) steps run with;
@@ -191,7 +191,7 @@ have_come text log stop program replayed fine is of =
     (of.shows program is).whole.replays in
     came.views
 
-pub view_done : (replay : ReplayWords (List ℕ)) (view : View (List ℕ)) (before : Environment) (texts : List (List ℕ)) (subject : Subject) (outcome : Outcome)
+pub view_done : (replay : ReplayWords (List ℕ)) (view : ReplayView (List ℕ)) (before : Environment) (texts : List (List ℕ)) (subject : Subject) (outcome : TaskOutcome)
     → AreHeld before.store.files (replay_inputs replay) texts → IsSubjectOf texts subject
     → TellsView (used_text subject.log subject.text) subject.log replay.stop view outcome → IsDoneFor (view_task replay view) before outcome
 view_done replay view before texts subject outcome held of told = (texts, held, (subject.log, of.is_log, rw of.is_text at told))

@@ -17,7 +17,7 @@ use Rattle.view_diff.specs.Comparing.{CanCompare}
 use Rattle.view_diff.specs.Laws.{PartsByAReply, PartsByAReplyAlone}
 use Rattle.wiz_tool.specs.declared.status.Status.{Status}
 use Rattle.wiz_tool.specs.declared.status.Status.TheVariants.{Done, Parted}
-use Rattle.wiz_tool.specs.Outcomes.{Outcome}
+use Rattle.wiz_tool.specs.Outcomes.{TaskOutcome}
 use Rattle.wiz_tool.specs.Statuses.{of_stands}
 use Rattle.wiz_logs.specs.Regroupings.{traces_outcome}
 use Rattle.wiz_task.specs.Replayings.{IsReplayOf}
@@ -29,7 +29,7 @@ abbrev pub of_comparison : List Compared → Status
 of_comparison ranks = if list_any comes_first ranks then Parted else Done
 
 -- the comparison is told
-abbrev pub compared_outcome : Replayed → Replayed → List Compared → Outcome
+abbrev pub compared_outcome : Replayed → Replayed → List Compared → TaskOutcome
 compared_outcome first second ranks = record {
   files = [];
   text = diff_text first.events.events second.events.events ranks;
@@ -39,11 +39,11 @@ compared_outcome first second ranks = record {
 }
 
 -- where both replays are done, else their traces
-abbrev pub diff_outcome_by : Status → Replayed → Replayed → List Compared → Outcome
+abbrev pub diff_outcome_by : Status → Replayed → Replayed → List Compared → TaskOutcome
 diff_outcome_by Done first second ranks = compared_outcome first second ranks
 diff_outcome_by status first second ranks = traces_outcome status (first ∷ second ∷ [])
 
-abbrev pub diff_outcome : Replayed → Replayed → List Compared → Outcome
+abbrev pub diff_outcome : Replayed → Replayed → List Compared → TaskOutcome
 diff_outcome first second ranks = diff_outcome_by (of_stands (first.ends ++ second.ends)) first second ranks
 
 -- ---- what is done
@@ -51,7 +51,7 @@ diff_outcome first second ranks = diff_outcome_by (of_stands (first.ends ++ seco
 -- two logs of one program and one group are replayed, each with their program, without a breakpoint, and compared, rank by rank. For every
 -- program of their text a rank that parts was answered in two ways, or one replay is cut short; where the logs are of runs the comparison is
 -- told, and where they are of one run nothing parts. A rank whose views are equal, numbers of communicators too, has printed the same
-pub record Compares (one other : Log) (outcome : Outcome) : Type 0 where
+pub record Compares (one other : Log) (outcome : TaskOutcome) : Type 0 where
   pub can_compare : CanCompare one other
   pub first : Replayed
   pub second : Replayed

@@ -1,36 +1,36 @@
 -- Commands that read logs: their input files, what is required of these, and what is done with a log.
 use Rattle.clap.specs.Words.{Text}
 use Rattle.group_plan.specs.PlanText.{IsPlanText}
-use Rattle.log_bounds.specs.RunBounds.{log_limit}
+use Rattle.srr_log.specs.declared.limits.TheConstants.{MOST_LOG_BYTES}
 use Rattle.replay_model.specs.Replays.{Breakpoint}
 use Rattle.replay_model.specs.declared.replayed.Replayed.{Replayed}
 use Rattle.srr_entry.specs.declared.log.Log.{Log}
 use Rattle.srr_log2.specs.Formats.{IsTextOfLog}
 use Rattle.srr_log2.specs.LogBytes.{log_bytes}
-use Rattle.srr_text.specs.LogText.{log_text}
+use Rattle.srr_log.specs.LogText.{log_text}
 use Rattle.std.specs.Prelude.{Bool, List, None, [], false, true, ℕ, ◌∷◌, ◌≡◌}
 use Rattle.wiz_logs.specs.Regroupings.{Refines}
 use Rattle.wiz_task.specs.Replayings.{IsReplayOf}
 use Rattle.wiz_task.specs.Requirements.{Requirement, a_comparison, a_join, a_log, a_plan, a_program, a_refinement, its_program}
 use Rattle.wiz_logs.specs.Views.{TellsView}
-use Rattle.wiz_logs.specs.declared.viewing.ask.View.{View}
+use Rattle.wiz_logs.specs.declared.viewing.ask.ReplayView.{ReplayView}
 use Rattle.wiz_task.specs.Names.{Plan}
 use Rattle.wiz_task.specs.Tasks.{Task}
 use Rattle.wiz_tool.specs.Inputs.{Input, input, option_input, text_limit}
-use Rattle.wiz_tool.specs.Outcomes.{Outcome}
+use Rattle.wiz_tool.specs.Outcomes.{TaskOutcome}
 use Rattle.wiz_tool.specs.Statuses.{of_stands}
 use Rattle.wiz_tool.specs.declared.status.Status.TheVariants.{Done}
 use Rattle.wiz_trace.specs.TraceTexts.{trace_text}
 use Rattle.wiz_words.specs.declared.command.ReplayWords.{ReplayWords}
 
 abbrev pub replay_inputs : ReplayWords Text → List Input
-replay_inputs replay = input log_limit replay.log ∷ option_input text_limit replay.program
+replay_inputs replay = input MOST_LOG_BYTES replay.log ∷ option_input text_limit replay.program
 
 abbrev pub refine_inputs : Text → Text → List Input
-refine_inputs log plan = input log_limit log ∷ input text_limit plan ∷ []
+refine_inputs log plan = input MOST_LOG_BYTES log ∷ input text_limit plan ∷ []
 
 abbrev pub join_inputs : Text → Text → List Input
-join_inputs one other = input log_limit one ∷ input log_limit other ∷ []
+join_inputs one other = input MOST_LOG_BYTES one ∷ input MOST_LOG_BYTES other ∷ []
 
 abbrev pub replay_requirements : List Text → List Requirement
 replay_requirements (bytes ∷ []) = a_log bytes ∷ its_program bytes ∷ []
@@ -60,9 +60,9 @@ abbrev pub IsLogOf : List Text → Log → Type 0
 IsLogOf [] log = ⊥
 IsLogOf (bytes ∷ more) log = IsTextOfLog bytes log
 
-abbrev pub program_text : List Text → Log → Text
-program_text (bytes ∷ text ∷ more) log = text
-program_text texts log = log.program
+abbrev pub asked_program : List Text → Log → Text
+asked_program (bytes ∷ text ∷ more) log = text
+asked_program texts log = log.program
 
 -- the plan that the second file holds
 abbrev pub IsPlanOf : List Text → Plan → Type 0
@@ -74,7 +74,7 @@ abbrev pub AreLogsOf : List Text → Log → Log → Type 0
 AreLogsOf (bytes ∷ others ∷ more) one other = IsTextOfLog bytes one × IsTextOfLog others other
 AreLogsOf texts one other = ⊥
 
-abbrev pub replay_outcome : Replayed → Outcome
+abbrev pub replay_outcome : Replayed → TaskOutcome
 replay_outcome replayed = record {
   files = [];
   text = trace_text replayed;
@@ -84,7 +84,7 @@ replay_outcome replayed = record {
 }
 
 -- a log is replayed with the program of a text
-abbrev pub TellsReplay : Text → Log → Breakpoint → Outcome → Type 0
+abbrev pub TellsReplay : Text → Log → Breakpoint → TaskOutcome → Type 0
 TellsReplay text log stop outcome =
     (replayed : Replayed) × IsReplayOf text log stop replayed × (outcome ≡ replay_outcome replayed)
 
@@ -94,7 +94,7 @@ converted true log = log_text log
 converted false log = log_bytes log
 
 -- one file is written, and nothing is put out
-abbrev pub convert_outcome : Text → List ℕ → Outcome
+abbrev pub convert_outcome : Text → List ℕ → TaskOutcome
 convert_outcome file bytes = record {
   files = (record { name = file; bytes = bytes }) ∷ [];
   text = [];
@@ -106,20 +106,20 @@ convert_outcome file bytes = record {
 -- ---- the tasks
 
 -- a log is read, and this is told of it
-abbrev pub log_task : Text → (Log → Outcome) → Task
+abbrev pub log_task : Text → (Log → TaskOutcome) → Task
 log_task name told =
-    record { inputs = input log_limit name ∷ []; requirements = log_requirements; Does = λ texts outcome. (log : Log) × IsLogOf texts log × (outcome ≡ told log) }
+    record { inputs = input MOST_LOG_BYTES name ∷ []; requirements = log_requirements; Does = λ texts outcome. (log : Log) × IsLogOf texts log × (outcome ≡ told log) }
 
 -- a log is replayed with the program of a text, and told
-abbrev pub replay_task : ReplayWords Text → (Text → Log → Breakpoint → Outcome → Type 0) → Task
+abbrev pub replay_task : ReplayWords Text → (Text → Log → Breakpoint → TaskOutcome → Type 0) → Task
 replay_task replay Tells = record {
   inputs = replay_inputs replay;
   requirements = replay_requirements;
-  Does = λ texts outcome. (log : Log) × IsLogOf texts log × Tells (program_text texts log) log replay.stop outcome;
+  Does = λ texts outcome. (log : Log) × IsLogOf texts log × Tells (asked_program texts log) log replay.stop outcome;
 }
 
 -- and what is asked of the replay is told
-abbrev pub view_task : ReplayWords Text → View Text → Task
+abbrev pub view_task : ReplayWords Text → ReplayView Text → Task
 view_task replay view = replay_task replay (λ text log stop. TellsView text log stop view)
 
 -- a log is refined by a plan
@@ -131,7 +131,7 @@ refine_task log plan prefix = record {
 }
 
 -- two logs are joined, or compared
-abbrev pub logs_task : Text → Text → (List Text → List Requirement) → (Log → Log → Outcome → Type 0) → Task
+abbrev pub logs_task : Text → Text → (List Text → List Requirement) → (Log → Log → TaskOutcome → Type 0) → Task
 logs_task one other requirements Does = record {
   inputs = join_inputs one other;
   requirements = requirements;

@@ -5,7 +5,7 @@ use Rattle.clap.specs.Words.{Text}
 use Rattle.c_program.specs.Tree.{Program}
 use Rattle.c_program.specs.Program.{next_of}
 use Rattle.c_types.specs.Checks.{IsProgramOf}
-use Rattle.log_bounds.specs.RunBounds.{log_limit}
+use Rattle.srr_log.specs.declared.limits.TheConstants.{MOST_LOG_BYTES}
 use Rattle.replay_model.specs.declared.replayed.Replayed.{Replayed}
 use Rattle.replay_model.specs.declared.replayed.Stand.{Stand}
 use Rattle.replay_model.specs.Laws.{IsRunWith}
@@ -15,14 +15,14 @@ use Rattle.srr_entry.specs.Entries.{log_of}
 use Rattle.srr_log2.specs.LogBytes.{AreLogBytes, log_bytes}
 use Rattle.srr_regroup.specs.Joining.{CanJoin}
 use Rattle.srr_regroup.specs.Refining.{CanRefine}
-use Rattle.srr_regroup.specs.Regrouping.{are_within, both_groups, joined, refined}
+use Rattle.srr_regroup.specs.Regrouping.{are_within, both_groups, joined_log, refined}
 use Rattle.wiz_trace.specs.RegroupTexts.{joined_text, refined_text}
 use Rattle.wiz_trace.specs.TraceTexts.{traces_text}
 use Rattle.wiz_tool.specs.declared.status.Status.{Status}
 use Rattle.wiz_tool.specs.declared.status.Status.TheVariants.{Done}
 use Rattle.wiz_tool.specs.Files.{NamedFile}
 use Rattle.wiz_task.specs.Names.{Plan}
-use Rattle.wiz_tool.specs.Outcomes.{Outcome}
+use Rattle.wiz_tool.specs.Outcomes.{TaskOutcome}
 use Rattle.wiz_tool.specs.LogFiles.{log_name}
 use Rattle.wiz_task.specs.Replayings.{IsReplayOf}
 use Rattle.wiz_tool.specs.Statuses.{of_stands}
@@ -56,7 +56,7 @@ HoldTheirLogs prefix inside log_of_part k (part ∷ parts) =
 
 -- none is longer than the file of a log may be
 abbrev pub AreShort : List NamedFile → Type 0
-AreShort files = AllByRecursion (λ (file : NamedFile). length file.bytes ≤ log_limit) files
+AreShort files = AllByRecursion (λ (file : NamedFile). length file.bytes ≤ MOST_LOG_BYTES) files
 
 -- ---- the outcome
 
@@ -66,40 +66,40 @@ stands_of [] = []
 stands_of (replayed ∷ replays) = replayed.ends ++ stands_of replays
 
 -- files are written and a text is put out
-abbrev pub done_outcome : List NamedFile → Text → List Replayed → Outcome
+abbrev pub done_outcome : List NamedFile → Text → List Replayed → TaskOutcome
 done_outcome files text replays = record { files = files; text = text; status = Done; run = None; replays = replays }
 
 -- nothing is written, and the traces of the replays are put out
-abbrev pub traces_outcome : Status → List Replayed → Outcome
+abbrev pub traces_outcome : Status → List Replayed → TaskOutcome
 traces_outcome status replays = record { files = []; text = traces_text replays; status = status; run = None; replays = replays }
 
 -- the former where all is done, else the latter
-abbrev pub outcome_by : Status → List NamedFile → Text → List Replayed → Outcome
+abbrev pub outcome_by : Status → List NamedFile → Text → List Replayed → TaskOutcome
 outcome_by Done files text replays = done_outcome files text replays
 outcome_by status files text replays = traces_outcome status replays
 
 -- by the stands of all replays together
-abbrev pub regroup_outcome : List NamedFile → Text → List Replayed → Outcome
+abbrev pub regroup_outcome : List NamedFile → Text → List Replayed → TaskOutcome
 regroup_outcome files text replays = outcome_by (of_stands (stands_of replays)) files text replays
 
-abbrev pub refine_outcome : Text → Log → Plan → Replayed → Outcome
+abbrev pub refine_outcome : Text → Log → Plan → Replayed → TaskOutcome
 refine_outcome prefix log groups replayed =
     regroup_outcome (part_files prefix log.group (refined log replayed.events.events) 0 groups) (refined_text log.group groups) (replayed ∷ [])
 
-abbrev pub join_outcome : Text → Log → Replayed → Log → Replayed → Outcome
+abbrev pub join_outcome : Text → Log → Replayed → Log → Replayed → TaskOutcome
 join_outcome file one first other second =
-    regroup_outcome (log_file file (joined one first.events.events other second.events.events)) (joined_text (both_groups one other)) (first ∷ second ∷ [])
+    regroup_outcome (log_file file (joined_log one first.events.events other second.events.events)) (joined_text (both_groups one other)) (first ∷ second ∷ [])
 
 -- ---- what is done
 
 -- all is done, and these files are written, none longer than the file of a log may be
-abbrev pub IsDoneWith : List NamedFile → Outcome → Type 0
+abbrev pub IsDoneWith : List NamedFile → TaskOutcome → Type 0
 IsDoneWith files outcome = (outcome.status ≡ Done) × (outcome.files ≡ files) × AreShort files
 
 -- a log is replayed with its own program, without a breakpoint, and refined. Each file holds the text of the log that is made for its
 -- group. For every program of the log's text and every run with this log the files are the logs of the run itself: byte for byte those
 -- that a recording of the run writes for these groups of the plan
-pub record Refines (prefix : Text) (log : Log) (groups : Plan) (outcome : Outcome) : Type 0 where
+pub record Refines (prefix : Text) (log : Log) (groups : Plan) (outcome : TaskOutcome) : Type 0 where
   pub can_refine : CanRefine log groups
   pub replayed : Replayed
   pub replay : IsReplayOf log.program log None replayed
@@ -110,13 +110,13 @@ pub record Refines (prefix : Text) (log : Log) (groups : Plan) (outcome : Outcom
 
 -- two logs are replayed, each alone, with their program, without a breakpoint, and joined. The file holds the text of the log that is
 -- made. For every program of their text and every run with both logs the file is the log of the run itself
-pub record Joins (file : Text) (one other : Log) (outcome : Outcome) : Type 0 where
+pub record Joins (file : Text) (one other : Log) (outcome : TaskOutcome) : Type 0 where
   pub can_join : CanJoin one other
   pub first : Replayed
   pub second : Replayed
   pub first_replay : IsReplayOf one.program one None first
   pub second_replay : IsReplayOf other.program other None second
   pub is_outcome : outcome ≡ join_outcome file one first other second
-  pub text : HoldLog (joined one first.events.events other second.events.events) (log_file file (joined one first.events.events other second.events.events))
+  pub text : HoldLog (joined_log one first.events.events other second.events.events) (log_file file (joined_log one first.events.events other second.events.events))
   pub of_runs : (program : Program) (run : List Event) → IsProgramOf one.program program → IsRunWith (next_of program) one run
       → IsRunWith (next_of program) other run → IsDoneWith (log_file file (log_of one.program one.ranks run (both_groups one other))) outcome

@@ -18,20 +18,20 @@ use Rattle.replay_views.specs.Watching.{changes_of, values_after}
 use Rattle.run_model.specs.declared.event.Event.{Event}
 use Rattle.run_model.specs.Views.{View as Seen, view_of}
 use Rattle.srr_entry.specs.declared.log.Log.{Log}
-use Rattle.wiz_logs.specs.declared.viewing.ask.View.{View}
-use Rattle.wiz_logs.specs.declared.viewing.ask.View.TheVariants.{Changes, Snapshots, Places}
+use Rattle.wiz_logs.specs.declared.viewing.ask.ReplayView.{ReplayView}
+use Rattle.wiz_logs.specs.declared.viewing.ask.ReplayView.TheVariants.{Changes, Snapshots, Places}
 use Rattle.wiz_task.specs.Replayings.{IsReplayOf}
 use Rattle.wiz_tool.specs.declared.status.Status.{Status}
 use Rattle.wiz_tool.specs.declared.status.Status.TheVariants.{Done}
-use Rattle.wiz_tool.specs.Outcomes.{Outcome}
+use Rattle.wiz_tool.specs.Outcomes.{TaskOutcome}
 use Rattle.wiz_tool.specs.Statuses.{of_stands}
-use Rattle.wiz_trace.specs.AtTexts.{at_text}
+use Rattle.wiz_trace.specs.AtTexts.{snapshots_text}
 use Rattle.wiz_trace.specs.TraceTexts.{trace_text}
 use Rattle.wiz_trace.specs.WatchTexts.{watch_text}
 use Rattle.wiz_trace.specs.WhereTexts.{where_text}
 
 -- what is asked, with its texts in place of what borrows them
-abbrev pub view_with_texts : View (Bor Text) → View Text
+abbrev pub view_with_texts : ReplayView (Bor Text) → ReplayView Text
 view_with_texts (Changes rank name) = Changes rank name.now
 view_with_texts Snapshots = Snapshots
 view_with_texts (Places name) = Places name
@@ -44,22 +44,22 @@ changes_in program log rank name seen =
     if is_member log.group rank then changes_of (values_after (next_of program) (variables_of program) log.ranks rank name) seen else []
 
 -- what is asked, after some events and by the stand of each rank of the group
-abbrev pub told_text : Program → Log → View Text → List Event → List Stand → Text
-told_text program log (Changes rank name) events ends = watch_text rank name (changes_in program log rank name (view_of events rank))
-told_text program log Snapshots events ends =
-    at_text (snapshots_of (next_of program) (variables_of program) log.ranks events log.group ends)
-told_text program log (Places name) events ends = where_text name log.group (places_of name events log.group)
+abbrev pub reported_text : Program → Log → ReplayView Text → List Event → List Stand → Text
+reported_text program log (Changes rank name) events ends = watch_text rank name (changes_in program log rank name (view_of events rank))
+reported_text program log Snapshots events ends =
+    snapshots_text (snapshots_of (next_of program) (variables_of program) log.ranks events log.group ends)
+reported_text program log (Places name) events ends = where_text name log.group (places_of name events log.group)
 
 -- a text of a replay that is done
-abbrev pub told_outcome : Text → Replayed → Outcome
-told_outcome text replayed = record { files = []; text = text; status = Done; run = None; replays = replayed ∷ [] }
+abbrev pub done_view_outcome : Text → Replayed → TaskOutcome
+done_view_outcome text replayed = record { files = []; text = text; status = Done; run = None; replays = replayed ∷ [] }
 
 -- a text of a replay, or its trace where it is not done
-abbrev pub view_outcome_by : Status → Text → Replayed → Outcome
-view_outcome_by Done text replayed = told_outcome text replayed
+abbrev pub view_outcome_by : Status → Text → Replayed → TaskOutcome
+view_outcome_by Done text replayed = done_view_outcome text replayed
 view_outcome_by status text replayed = record { files = []; text = trace_text replayed; status = status; run = None; replays = replayed ∷ [] }
 
-abbrev pub view_outcome : Text → Replayed → Outcome
+abbrev pub view_outcome : Text → Replayed → TaskOutcome
 view_outcome text replayed = view_outcome_by (of_stands replayed.ends) text replayed
 
 -- ---- what is done
@@ -67,13 +67,13 @@ view_outcome text replayed = view_outcome_by (of_stands replayed.ends) text repl
 -- a log is replayed with the program of a text, up to the breakpoint if there is one, and what is asked of the replay is told, by each program of
 -- that text. Without a breakpoint it is what each run with the log tells. The cut of an earlier place of a rank is within that of a later one,
 -- and so is a replay up to it
-pub record TellsView (text : Text) (log : Log) (stop : Breakpoint) (view : View Text) (outcome : Outcome) : Type 0 where
+pub record TellsView (text : Text) (log : Log) (stop : Breakpoint) (view : ReplayView Text) (outcome : TaskOutcome) : Type 0 where
   pub replayed : Replayed
   pub replay : IsReplayOf text log stop replayed
   pub is_outcome : (program : Program) → IsProgramOf text program
-      → outcome ≡ view_outcome (told_text program log view replayed.events.events replayed.ends) replayed
+      → outcome ≡ view_outcome (reported_text program log view replayed.events.events replayed.ends) replayed
   pub of_runs : stop ≡ None → (program : Program) (run : List Event) → IsProgramOf text program → IsRunWith (next_of program) log run
-      → outcome ≡ told_outcome (told_text program log view run replayed.ends) replayed
+      → outcome ≡ done_view_outcome (reported_text program log view run replayed.ends) replayed
   pub back : (run : List Event) → IsStepBack log.ranks log.group (view_of run)
   pub steps : (program : Program) (run : List Event) → IsProgramOf text program → IsRunWith (next_of program) log run
       → ReplaysStepBack (next_of program) log run

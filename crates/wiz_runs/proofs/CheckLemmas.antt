@@ -17,7 +17,7 @@ use Rattle.replay_model.specs.declared.replayed.Replayed.{Replayed}
 use Rattle.srr_record.specs.declared.recording.Recording.{Recording}
 use Rattle.group_plan.specs.Plans.{number_of_ranks}
 use Rattle.wiz_task.specs.declared.ready.Ready.{Ready}
-use Rattle.wiz_task.specs.inside.Recording.{CanRun, IsMade}
+use Rattle.wiz_task.specs.inside.Recording.{CanRun, IsMadeRecording}
 use Rattle.wiz_runs.specs.inside.Recording.{IsKeptLog}
 
 -- the logs of a recording are kept
@@ -66,7 +66,7 @@ checks_of program text n events (group ∷ groups) (replayed ∷ replays) is run
 text_is : (ready : Ready) → CanRun ready → IsProgramOf ready.text (pure_program ready.program)
 text_is ready can = rw can.1.text can.1.prepared.is_program
 
-pub logs_kept : (ready : Ready) (is_threaded : Bool) (recording : Recording) → CanRun ready → IsMade is_threaded ready recording
+pub logs_kept : (ready : Ready) (is_threaded : Bool) (recording : Recording) → CanRun ready → IsMadeRecording is_threaded ready recording
     → AllByRecursion (IsKeptLog (pure_program ready.program)) recording.logs
 logs_kept ready is_threaded recording can made =
     let recorded = made.is_recording.recorded in
@@ -74,7 +74,7 @@ logs_kept ready is_threaded recording can made =
     (kept_logs (pure_program ready.program) ready.text (number_of_ranks ready.plan) recording.history.events ready.plan (text_is ready can)
     (rw recorded.logs at made.is_recording.readable))
 
-pub logs_checked : (ready : Ready) (is_threaded : Bool) (recording : Recording) (replays : List Replayed) → CanRun ready → IsMade is_threaded ready recording
+pub logs_checked : (ready : Ready) (is_threaded : Bool) (recording : Recording) (replays : List Replayed) → CanRun ready → IsMadeRecording is_threaded ready recording
     → AllZip (λ (log : Log). IsReplayOf log.program log None) recording.logs replays → AreChecksOf (pure_program ready.program) recording.history.events recording.logs replays
 logs_checked ready is_threaded recording replays can made all =
     let recorded = made.is_recording.recorded in

@@ -31,7 +31,7 @@ use Rattle.wiz_task.specs.declared.ready.Ready.{Ready}
 use Rattle.wiz_tool.specs.declared.status.Status.{Status}
 use Rattle.wiz_task.specs.Tasks.{IsDoneFor, IsRefusedFor}
 use Rattle.wiz_runs.specs.Runs.{check_outcome, checked, demo_texts, demonstrated, races_outcome, record_outcome, run_inputs, run_requirements, run_texts, TellsAdvice, TellsCheck, TellsRaces, TellsRecord, TellsWaits, demo_task, run_task}
-use Rattle.wiz_tool.specs.Outcomes.{run_outcome, Outcome}
+use Rattle.wiz_tool.specs.Outcomes.{run_outcome, TaskOutcome}
 use Rattle.wiz_tool.specs.Inputs.{AreHeld}
 use Rattle.wiz_runs.specs.Pictures.{IsPictureOf, TellsPicture, picture_outcome}
 use Rattle.wiz_runs.specs.RaceOrders.{IsOtherOrder}
@@ -39,15 +39,15 @@ use Rattle.wiz_task.specs.Recordings.{Records, RunTexts}
 use Rattle.wiz_tool.specs.Statuses.{of_ending}
 use Rattle.wiz_runs.specs.inside.Races.{AreRacesOf}
 use Rattle.wiz_runs.specs.inside.Recording.{IsCheckedRun}
-use Rattle.wiz_task.specs.inside.Recording.{IsMade, IsReady}
+use Rattle.wiz_task.specs.inside.Recording.{IsMadeRecording, IsReadyToRecord}
 use Rattle.wiz_task.specs.inside.Refusals.{IsUnmetIn}
 use Rattle.wiz_tool.specs.inside.Told.{IsFailureBy}
 use Rattle.wiz_tool.specs.Environment.{Environment}
 use Rattle.wiz_task.proofs.InputLemmas.{weaken}
 
 -- a recording of what texts hold
-records : (is_threaded : Bool) (texts : RunTexts) (ready : Ready) (recording : Recording) (Tells : Program → List (List ℕ) → Recording → Outcome → Type 0) (outcome : Outcome)
-    → IsReady texts ready → IsMade is_threaded ready recording → Tells (pure_program ready.program) ready.plan recording outcome → Records is_threaded texts Tells outcome
+records : (is_threaded : Bool) (texts : RunTexts) (ready : Ready) (recording : Recording) (Tells : Program → List (List ℕ) → Recording → TaskOutcome → Type 0) (outcome : TaskOutcome)
+    → IsReadyToRecord texts ready → IsMadeRecording is_threaded ready recording → Tells (pure_program ready.program) ready.plan recording outcome → Records is_threaded texts Tells outcome
 records is_threaded texts ready recording Tells outcome is made tells = record {
   program = (pure_program ready.program);
   groups = ready.plan;
@@ -59,13 +59,13 @@ records is_threaded texts ready recording Tells outcome is made tells = record {
 }
 
 pub record_done : (run : RunWords (List ℕ)) (prefix : List ℕ) (before : Environment) (texts : List (List ℕ)) (ready : Ready) (recording : Recording)
-    → AreHeld before.store.files (run_inputs run) texts → IsReady (run_texts texts) ready → IsMade (is_threaded_run run) ready recording
+    → AreHeld before.store.files (run_inputs run) texts → IsReadyToRecord (run_texts texts) ready → IsMadeRecording (is_threaded_run run) ready recording
     → IsDoneFor (run_task run (TellsRecord prefix)) before (record_outcome prefix recording)
 record_done run prefix before texts ready recording held is made =
     (texts, held, records (is_threaded_run run) (run_texts texts) ready recording (TellsRecord prefix) (record_outcome prefix recording) is made refl)
 
 pub check_done : (run : RunWords (List ℕ)) (before : Environment) (texts : List (List ℕ)) (ready : Ready) (of : CheckedRun)
-    → AreHeld before.store.files (run_inputs run) texts → IsReady (run_texts texts) ready → IsCheckedRun (is_threaded_run run) ready of
+    → AreHeld before.store.files (run_inputs run) texts → IsReadyToRecord (run_texts texts) ready → IsCheckedRun (is_threaded_run run) ready of
     → IsDoneFor (run_task run (TellsCheck checked)) before (check_outcome (check_text ready.plan of.replays of.recording.ending) of.recording of.replays)
 check_done run before texts ready of held is made = (
   texts,
@@ -75,7 +75,7 @@ check_done run before texts ready of held is made = (
 )
 
 -- the text of an advice is told
-pub advice_told : (most n block given : ℕ) (program : Program) (groups : List (List ℕ)) (recording : Recording) (advice : Advice) (text : List ℕ) (status : Status) (outcome : Outcome)
+pub advice_told : (most n block given : ℕ) (program : Program) (groups : List (List ℕ)) (recording : Recording) (advice : Advice) (text : List ℕ) (status : Status) (outcome : TaskOutcome)
     → n ≡ number_of_ranks groups → block ≡ min most n → IsAdvice n recording.history.events block advice
     → given ≡ plan_cost (number_of_ranks groups) recording.history.events groups → text ≡ advice_text advice given recording.ending
     → status ≡ of_ending recording.ending → outcome ≡ run_outcome status text recording [] → RunsHaveOneAdvice → CertificatesBound
@@ -94,7 +94,7 @@ advice_told most n block given program groups recording advice text status outco
     )
 
 pub races_done : (run : RunWords (List ℕ)) (orders : Option (List ℕ)) (before : Environment) (texts : List (List ℕ)) (ready : Ready) (recording : Recording) (told : RacesText)
-    → AreHeld before.store.files (run_inputs run) texts → IsReady (run_texts texts) ready → IsMade (is_threaded_run run) ready recording
+    → AreHeld before.store.files (run_inputs run) texts → IsReadyToRecord (run_texts texts) ready → IsMadeRecording (is_threaded_run run) ready recording
     → (of : AreRacesOf ready recording told)
     → ((other : OtherPick) → IsIn other (others_of (number_of_ranks ready.plan) recording.history.events)
     → IsOtherOrder (next_of (pure_program ready.program)) (number_of_ranks ready.plan) recording other)
@@ -107,8 +107,8 @@ races_done run orders before texts ready recording told held is made of others =
 )
 
 -- the text of who waits for whom is told
-pub waits_told : (n : ℕ) (ready : Ready) (recording : Recording) (graph : Graph) (text : List ℕ) (status : Status) (outcome : Outcome)
-    → n ≡ number_of_ranks ready.plan → IsMade true ready recording → graph ≡ graph_of n recording.history.events
+pub waits_told : (n : ℕ) (ready : Ready) (recording : Recording) (graph : Graph) (text : List ℕ) (status : Status) (outcome : TaskOutcome)
+    → n ≡ number_of_ranks ready.plan → IsMadeRecording true ready recording → graph ≡ graph_of n recording.history.events
     → text ≡ waits_text n recording.history.events graph recording.ending → status ≡ of_ending recording.ending
     → outcome ≡ run_outcome status text recording [] → StuckExactly (next_of (pure_program ready.program)) n → BlockedExactly (next_of (pure_program ready.program)) n
     → BlockedWait (next_of (pure_program ready.program)) n → HasCause (next_of (pure_program ready.program)) n → ((events : List Event) → NoneFits events)
@@ -136,15 +136,15 @@ waits_told n ready recording graph text status outcome n_is made graph_is text_i
       none_fits = none events;
     }
 
-pub waits_done : (run : RunWords (List ℕ)) (before : Environment) (texts : List (List ℕ)) (ready : Ready) (recording : Recording) (outcome : Outcome)
-    → AreHeld before.store.files (run_inputs run) texts → IsReady (run_texts texts) ready → IsMade (is_threaded_run run) ready recording
+pub waits_done : (run : RunWords (List ℕ)) (before : Environment) (texts : List (List ℕ)) (ready : Ready) (recording : Recording) (outcome : TaskOutcome)
+    → AreHeld before.store.files (run_inputs run) texts → IsReadyToRecord (run_texts texts) ready → IsMadeRecording (is_threaded_run run) ready recording
     → TellsWaits (pure_program ready.program) ready.plan recording outcome → IsDoneFor (run_task run TellsWaits) before outcome
 waits_done run before texts ready recording outcome held is made tells =
     (texts, held, records (is_threaded_run run) (run_texts texts) ready recording TellsWaits outcome is made tells)
 
 pub picture_done : (run : RunWords (List ℕ)) (file : List ℕ) (is_trace : Bool) (before : Environment) (texts : List (List ℕ)) (ready : Ready) (recording : Recording)
-    (picture : Option (List ℕ)) → AreHeld before.store.files (run_inputs run) texts → IsReady (run_texts texts) ready
-    → IsMade (is_threaded_run run) ready recording → IsPictureOf is_trace (pure_program ready.program) ready.plan recording picture
+    (picture : Option (List ℕ)) → AreHeld before.store.files (run_inputs run) texts → IsReadyToRecord (run_texts texts) ready
+    → IsMadeRecording (is_threaded_run run) ready recording → IsPictureOf is_trace (pure_program ready.program) ready.plan recording picture
     → IsDoneFor (run_task run (TellsPicture file is_trace)) before (picture_outcome file recording picture)
 picture_done run file is_trace before texts ready recording picture held is made of = (
   texts,
@@ -153,13 +153,13 @@ picture_done run file is_trace before texts ready recording picture held is made
       (record { picture = picture; is_picture = of; is_outcome = refl }),
 )
 
-pub advise_done : (run : RunWords (List ℕ)) (most : ℕ) (before : Environment) (texts : List (List ℕ)) (ready : Ready) (recording : Recording) (outcome : Outcome)
-    → AreHeld before.store.files (run_inputs run) texts → IsReady (run_texts texts) ready → IsMade (is_threaded_run run) ready recording
+pub advise_done : (run : RunWords (List ℕ)) (most : ℕ) (before : Environment) (texts : List (List ℕ)) (ready : Ready) (recording : Recording) (outcome : TaskOutcome)
+    → AreHeld before.store.files (run_inputs run) texts → IsReadyToRecord (run_texts texts) ready → IsMadeRecording (is_threaded_run run) ready recording
     → TellsAdvice most (pure_program ready.program) ready.plan recording outcome → IsDoneFor (run_task run (TellsAdvice most)) before outcome
 advise_done run most before texts ready recording outcome held is made tells =
     (texts, held, records (is_threaded_run run) (run_texts texts) ready recording (TellsAdvice most) outcome is made tells)
 
-pub demo_done : (seed rounds : ℕ) (before : Environment) (ready : Ready) (of : CheckedRun) → IsReady (run_texts (demo_texts seed rounds)) ready → IsCheckedRun false ready of
+pub demo_done : (seed rounds : ℕ) (before : Environment) (ready : Ready) (of : CheckedRun) → IsReadyToRecord (run_texts (demo_texts seed rounds)) ready → IsCheckedRun false ready of
     → IsDoneFor (demo_task seed rounds) before
     (check_outcome (demo_text seed rounds of.recording.history.events ready.plan of.replays of.recording.ending) of.recording of.replays)
 demo_done seed rounds before ready of is made = (

@@ -9,7 +9,7 @@ use Rattle.srr_record.specs.declared.recording.Recording.{Recording}
 use Rattle.wiz_base.specs.Decimals.{decimal_text}
 use Rattle.wiz_base.proofs.DecimalLaws.{decimal_text-and_rest}
 use Rattle.wiz_runs.specs.RaceOrders.{other_file, other_name}
-use Rattle.wiz_io.specs.Files.{Files, FilesTold}
+use Rattle.wiz_io.specs.Files.{Files, ObservedFiles}
 use Rattle.wiz_tool.specs.declared.writing.Unwritten.{Unwritten}
 use Rattle.wiz_tool.specs.Files.{AreWritten, NamedFile}
 use Rattle.wiz_tool.specs.inside.Told.{IsStopped}
@@ -79,7 +79,7 @@ more_written prefix recording others k other before mid after apart there first 
     subst F (sym files)
     (AreWritten-append before mid after (map f (take k others)) (f other ∷ []) [] first second (earlier_apart prefix recording others k other apart there))
 
-pub then_stopped : (prefix : List ℕ) (recording : Recording) (others : List OtherPick) (k : ℕ) (other : OtherPick) (before mid after : FilesTold) (why : Unwritten)
+pub then_stopped : (prefix : List ℕ) (recording : Recording) (others : List OtherPick) (k : ℕ) (other : OtherPick) (before mid after : ObservedFiles) (why : Unwritten)
     → AreApart others → slice_get others k ≡ Some other → AreWritten before.files mid.files (map (other_file prefix recording) (take k others)) []
     → IsStopped mid after (other_file prefix recording other ∷ []) why → before.writes ≤ mid.writes
     → IsStopped before after (map (other_file prefix recording) others) why

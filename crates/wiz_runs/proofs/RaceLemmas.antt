@@ -4,7 +4,7 @@ use Rattle.c_program.specs.View.{pure_program}
 use Rattle.c_program.specs.Program.{next_of}
 use Rattle.explanation_text.proofs.OrderLaws.{IsOrderText-turns}
 use Rattle.group_plan.specs.Plans.{number_of_ranks}
-use Rattle.msg_races.specs.declared.receives.Receive.{Receive}
+use Rattle.msg_races.specs.declared.receives.WildcardReceive.{WildcardReceive}
 use Rattle.mpi_call.specs.Lists.{IsIn}
 use Rattle.other_picks.specs.declared.other.OtherPick.{OtherPick}
 use Rattle.other_picks.specs.OtherLaws.{OthersAreTaken, OthersAreTurns, turns_to}
@@ -14,22 +14,22 @@ use Rattle.picked_runs.specs.Picked.{ArePicked}
 use Rattle.run_model.specs.Views.{Next}
 use Rattle.srr_record.specs.declared.recording.Recording.{Recording}
 use Rattle.wiz_task.specs.declared.ready.Ready.{Ready}
-use Rattle.wiz_runs.specs.Runs.{races_outcome, races_told}
+use Rattle.wiz_runs.specs.Runs.{races_outcome, reported_races}
 use Rattle.wiz_runs.specs.RaceOrders.{IsOtherOrder, order_files}
-use Rattle.wiz_task.specs.inside.Recording.{IsMade}
+use Rattle.wiz_task.specs.inside.Recording.{IsMadeRecording}
 use Rattle.wiz_tool.specs.declared.report.Done.{Done}
-use Rattle.wiz_tool.specs.inside.Told.{outcome_of}
+use Rattle.wiz_tool.specs.inside.Told.{outcome_written}
 use Rattle.wiz_tool.proofs.FinishLemmas.{with_files}
 
 -- the picks of a recording
-pub picks_made : (ready : Ready) (recording : Recording) (n : ℕ) → IsMade true ready recording → n ≡ number_of_ranks ready.plan
+pub picks_made : (ready : Ready) (recording : Recording) (n : ℕ) → IsMadeRecording true ready recording → n ≡ number_of_ranks ready.plan
     → (picks : List Pick) × ArePicked n [] picks recording.history.events
 picks_made ready recording n made same =
     let F : ℕ → Type 0 = λ m. ArePicked m [] recording.picks.written recording.history.events in
     (recording.picks.written, subst F (sym same) made.is_recording.recorded.picked.along)
 
 -- each other pick of a recording has an order, which is recorded
-pub others_made : (ready : Ready) (recording : Recording) (n : ℕ) → IsMade true ready recording → n ≡ number_of_ranks ready.plan
+pub others_made : (ready : Ready) (recording : Recording) (n : ℕ) → IsMadeRecording true ready recording → n ≡ number_of_ranks ready.plan
     → OthersAreTaken (next_of (pure_program ready.program)) n → OthersAreTurns (next_of (pure_program ready.program)) n
     → (other : OtherPick) → IsIn other (others_of (number_of_ranks ready.plan) recording.history.events)
     → IsOtherOrder (next_of (pure_program ready.program)) (number_of_ranks ready.plan) recording other
@@ -47,6 +47,6 @@ others_made ready recording n made same taken turns other among =
     }
 
 -- what is told when the order files are written
-pub races_are_told : (orders : Option (List ℕ)) (n : ℕ) (receives : List Receive) (recording : Recording) (done : Done) → outcome_of [] done ≡ races_told receives recording
-    → outcome_of (order_files orders n recording) done ≡ races_outcome orders n receives recording
-races_are_told orders n receives recording done same = with_files (order_files orders n recording) done (races_told receives recording) same
+pub races_are_told : (orders : Option (List ℕ)) (n : ℕ) (receives : List WildcardReceive) (recording : Recording) (done : Done) → outcome_written [] done ≡ reported_races receives recording
+    → outcome_written (order_files orders n recording) done ≡ races_outcome orders n receives recording
+races_are_told orders n receives recording done same = with_files (order_files orders n recording) done (reported_races receives recording) same

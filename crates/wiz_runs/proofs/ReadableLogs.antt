@@ -2,7 +2,7 @@
 use Rattle.std.proofs.Common.{◌≡◌, ◌<◌, ◌≤◌, ℕ, List, [], ◌∷◌, true, length, map, arith, refl}
 use Rattle.std.specs.List.{AllByRecursion}
 use Rattle.std.proofs.lemmas.Bool.{lt-ltb}
-use Rattle.group_plan.specs.Plans.{IsPlan, number_of_ranks, rank_bound, IsGroup as IsPlanGroup}
+use Rattle.group_plan.specs.Plans.{IsPlan, number_of_ranks, rank_bound, IsRisingGroup as IsPlanGroup}
 use Rattle.log_bounds.specs.RunBounds.{RepliesFit32, LogsAreInBounds, LogBytesAreShort}
 use Rattle.run_model.specs.declared.event.Event.{Event}
 use Rattle.picked_runs.specs.declared.turn.Pick.{Pick}
@@ -11,7 +11,7 @@ use Rattle.run_model.specs.Lists.{are_below}
 use Rattle.run_model.specs.Views.{Next}
 use Rattle.srr_entry.specs.declared.log.Log.{Log}
 use Rattle.srr_entry.specs.Entries.{log_of}
-use Rattle.srr_text.specs.Bounds.{IsGroup}
+use Rattle.srr_log.specs.Bounds.{IsGroup}
 use Rattle.wiz_task.specs.Recordings.{IsReadable}
 use Rattle.wiz_task.specs.inside.Recording.{AreInBounds}
 

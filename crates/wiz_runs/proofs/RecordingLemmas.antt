@@ -13,7 +13,7 @@ use Rattle.msg_races.proofs.Ranks.{run_ranks}
 use Rattle.picked_runs.specs.declared.turn.Turn.{Turn}
 use Rattle.picked_runs.specs.PickLaws.{EveryRunIsRecorded, PicksAreTurns, PicksFixRun, TurnsFixRun}
 use Rattle.picked_runs.specs.Picked.{IsPicked}
-use Rattle.picked_runs.specs.Turns.{IsTaken, turns_of}
+use Rattle.picked_runs.specs.Turns.{IsRunByTurns, turns_of}
 use Rattle.plan_advice.specs.Costs.{IsRunOfAProgram}
 use Rattle.replay_model.specs.Laws.{IsRunWith}
 use Rattle.run_model.specs.declared.event.Event.{Event}
@@ -24,10 +24,10 @@ use Rattle.srr_entry.specs.declared.log.Log.{Log}
 use Rattle.srr_entry.specs.Entries.{log_of}
 use Rattle.srr_entry.specs.Outputs.{Output}
 use Rattle.srr_record.specs.declared.recording.Recording.{Recording}
-use Rattle.srr_record.specs.Recordings.{IsRecorded, IsRecording}
+use Rattle.srr_record.specs.Recordings.{IsRecorded, IsRecording, recording_with}
 use Rattle.wiz_task.specs.declared.ready.Ready.{Ready}
 use Rattle.wiz_task.specs.Recordings.{IsInTurns, IsOrderOf, IsReadable}
-use Rattle.wiz_task.specs.inside.Recording.{CanRun, IsMade}
+use Rattle.wiz_task.specs.inside.Recording.{CanRun, IsMadeRecording}
 use Rattle.wiz_runs.proofs.ReadableLogs.{in_bounds_of, readable_logs}
 
 -- each log of a run is one of it
@@ -43,13 +43,13 @@ order_of_run next n recording law picked =
 
 -- the run of the turns is the only one, and begins with each run whose order and picks they are
 pub in_turns : (next : Next) (output : Output) (n : ℕ) (text : List ℕ) (groups : List (List ℕ)) (turns : List Turn) (recording : Recording) → EveryRunIsRecorded next n
-    → TurnsFixRun next n → IsRecording next output n text groups turns recording → IsInTurns next n turns recording.history.events
+    → TurnsFixRun next n → IsRecording next output n (recording_with text groups turns) recording → IsInTurns next n turns recording.history.events
 in_turns next output n text groups turns recording every fix is = record {
   taken = is.made;
   only = λ others taken. fix turns others recording.history.events taken is.made;
   picked = is.begins;
   allowed = λ run is_run numbered free same.
-      let F : List Turn → Type 0 = λ order. IsTaken next n order recording.history.events in
+      let F : List Turn → Type 0 = λ order. IsRunByTurns next n order recording.history.events in
       every run recording.history.events is_run numbered free (subst F (sym same) is.made);
 }
 
@@ -59,7 +59,7 @@ pub made_by : (ready : Ready) (recording : Recording) → CanRun ready
     → PicksFixRun (next_of (pure_program ready.program)) (number_of_ranks ready.plan) → IsPlan ready.plan
     → (is_threaded : Bool)
     → (is_threaded ≡ false → IsInTurns (next_of (pure_program ready.program)) (number_of_ranks ready.plan) ready.turns recording.history.events)
-    → IsMade is_threaded ready recording
+    → IsMadeRecording is_threaded ready recording
 made_by ready recording is recorded law brief words turns fix plan is_threaded in_turns =
     let readable : AllByRecursion IsReadable recording.logs =
     rw recorded.logs
@@ -80,7 +80,7 @@ made_by ready recording is recorded law brief words turns fix plan is_threaded i
     }
 
 -- what is said of a recording on one thread is more than what is said of one on threads
-pub made_on_threads : (is_threaded : Bool) (ready : Ready) (recording : Recording) → IsMade is_threaded ready recording → IsMade true ready recording
+pub made_on_threads : (is_threaded : Bool) (ready : Ready) (recording : Recording) → IsMadeRecording is_threaded ready recording → IsMadeRecording true ready recording
 made_on_threads is_threaded ready recording made =
     let is = made.is_recording in
     record {
@@ -90,7 +90,7 @@ made_on_threads is_threaded ready recording made =
     }
 
 -- the run of what is run
-pub run_made : (is_threaded : Bool) (ready : Ready) (recording : Recording) → IsMade is_threaded ready recording
+pub run_made : (is_threaded : Bool) (ready : Ready) (recording : Recording) → IsMadeRecording is_threaded ready recording
     → IsRunOfAProgram (number_of_ranks ready.plan) recording.history.events
 run_made is_threaded ready recording made = record {
   next = next_of (pure_program ready.program);
@@ -101,7 +101,7 @@ run_made is_threaded ready recording made = record {
 }
 
 -- its events are of its ranks
-pub ranks_below : (is_threaded : Bool) (ready : Ready) (recording : Recording) → IsMade is_threaded ready recording
+pub ranks_below : (is_threaded : Bool) (ready : Ready) (recording : Recording) → IsMadeRecording is_threaded ready recording
     → AreOfRanks (number_of_ranks ready.plan) recording.history.events
 ranks_below is_threaded ready recording made =
     run_ranks (next_of (pure_program ready.program)) (number_of_ranks ready.plan) recording.history.events made.is_recording.recorded.picked.run

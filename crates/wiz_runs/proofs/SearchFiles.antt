@@ -5,13 +5,13 @@ use Rattle.std.specs.List.{AllByRecursion}
 use Rattle.std.specs.Prelude.{option_map}
 use Rattle.std.proofs.lemmas.List.{append-nil, append_cancel_left, length-map, length-take-le}
 use Rattle.std.proofs.lemmas.Option.{slice_get-map}
-use Rattle.explore.specs.declared.found.Found.{Found}
+use Rattle.explore.specs.declared.found.FoundOutcome.{FoundOutcome}
 use Rattle.std.proofs.Math.ListN.{get_or-append}
 use Rattle.picked_runs.specs.declared.turn.Turn.{Turn}
 use Rattle.wiz_base.specs.Decimals.{decimal_text}
 use Rattle.wiz_base.proofs.DecimalLaws.{decimal_text-and_rest, decimal_text-bytes, decimal_text-nonempty}
 use Rattle.wiz_runs.specs.Explorations.{found_turns, left_prefix, numbered_file, numbered_files, numbered_name}
-use Rattle.wiz_io.specs.Files.{Files, FilesTold}
+use Rattle.wiz_io.specs.Files.{Files, ObservedFiles}
 use Rattle.wiz_tool.specs.declared.writing.Unwritten.{Unwritten}
 use Rattle.wiz_tool.specs.Files.{AreWritten, NamedFile}
 use Rattle.wiz_tool.specs.inside.Told.{IsStopped}
@@ -111,13 +111,13 @@ one_written prefix all k turns before mid after below there first second =
     (AreWritten-append before mid after (numbered_files prefix 0 (take k all)) (numbered_file prefix k turns ∷ []) [] first second (apart_at prefix all k below)))
 
 -- the turns of an outcome
-pub found_at : (listed : List Found) (k : ℕ) (found : Found) → slice_get listed k ≡ Some found → slice_get (found_turns listed) k ≡ Some found.turns
-found_at listed k found there = slice_get-map (λ (f : Found). f.turns) listed k ∙ ap (option_map (λ (f : Found). f.turns)) there
+pub found_at : (listed : List FoundOutcome) (k : ℕ) (found : FoundOutcome) → slice_get listed k ≡ Some found → slice_get (found_turns listed) k ≡ Some found.turns
+found_at listed k found there = slice_get-map (λ (f : FoundOutcome). f.turns) listed k ∙ ap (option_map (λ (f : FoundOutcome). f.turns)) there
 
-pub found_below : (listed : List Found) (k : ℕ) → k < length listed → k ≤ length (found_turns listed)
-found_below listed k below = omega (arith, length-map listed (λ (f : Found). f.turns), below)
+pub found_below : (listed : List FoundOutcome) (k : ℕ) → k < length listed → k ≤ length (found_turns listed)
+found_below listed k below = omega (arith, length-map listed (λ (f : FoundOutcome). f.turns), below)
 
-pub one_stopped : (prefix : List ℕ) (all : List (List Turn)) (k : ℕ) (turns : List Turn) (before mid after : FilesTold) (why : Unwritten) → k ≤ length all
+pub one_stopped : (prefix : List ℕ) (all : List (List Turn)) (k : ℕ) (turns : List Turn) (before mid after : ObservedFiles) (why : Unwritten) → k ≤ length all
     → slice_get all k ≡ Some turns → AreWritten before.files mid.files (numbered_files prefix 0 (take k all)) []
     → IsStopped mid after (numbered_file prefix k turns ∷ []) why → before.writes ≤ mid.writes → IsStopped before after (numbered_files prefix 0 all) why
 one_stopped prefix all k turns before mid after why below there first stopped later =

@@ -8,38 +8,39 @@ use Rattle.c_program.specs.Program.{next_of, output_of}
 use Rattle.explanation_text.proofs.OrderLaws.{IsOrderText-turns}
 use Rattle.explanation_text.specs.WaitsTexts.{waiting_text}
 use Rattle.explore.specs.declared.found.Explored.{Explored}
-use Rattle.explore.specs.declared.found.Found.{Found}
-use Rattle.explore.specs.Explored.{AreTurnsOf, IsExplored, IsListed, made_by}
+use Rattle.explore.specs.declared.found.FoundOutcome.{FoundOutcome}
+use Rattle.explore.specs.Explored.{AreTurnsOf, IsExplored, IsListed, events_of_turns}
 use Rattle.explore_text.specs.ExploreTexts.{explore_text}
 use Rattle.group_plan.specs.Plans.{number_of_ranks}
 use Rattle.mpi_call.specs.declared.call.Halt.TheVariants.{Aborted, Trapped, Truncated, Mismatched, BadRequest, Limit, Stuck}
 use Rattle.mpi_call.specs.Lists.{IsIn}
 use Rattle.picked_runs.specs.declared.turn.Turn.{Turn}
-use Rattle.picked_runs.specs.Turns.{IsPickOf, IsTaken, IsTurnOf}
+use Rattle.picked_runs.specs.Turns.{IsPickOf, IsRunByTurns, IsTurnOf}
 use Rattle.replay_model.specs.declared.replayed.Replayed.{Replayed}
 use Rattle.run_model.specs.declared.ending.Ending.{Ending}
 use Rattle.run_model.specs.declared.ending.Ending.TheVariants.{Finished, Halted as WasHalted}
 use Rattle.run_model.specs.declared.event.Event.{Event}
 use Rattle.run_model.specs.Endings.{ending_of}
 use Rattle.run_model.specs.Views.{Next}
-use Rattle.run_states.specs.Outcomes.{IsWhole, Outcome as RunOutcome, Output, ending_told, outcome_of}
+use Rattle.srr_entry.specs.Outputs.{Output}
+use Rattle.run_states.specs.Outcomes.{IsWholeRun, RunOutcome, reported_ending, outcome_of_run}
 use Rattle.wait_graph.specs.declared.graph.Graph.{Graph}
 use Rattle.wait_graph.specs.Graph.{graph_of}
 use Rattle.wiz_runs.specs.declared.exploring.make.Searched.{Searched}
 use Rattle.wiz_task.specs.declared.ready.Ready.{Ready}
 use Rattle.wiz_task.specs.Tasks.{IsDoneFor}
 use Rattle.wiz_runs.specs.Runs.{run_inputs, run_texts, search_task}
-use Rattle.wiz_runs.specs.Explorations.{IsReadBack, IsWaiting, is_complete, is_halted, of_search, search_files, search_outcome, waits_of}
+use Rattle.wiz_runs.specs.Explorations.{IsReadBack, IsWaiting, is_exploration_complete, is_halted, of_search, search_files, search_outcome, waits_of}
 use Rattle.wiz_runs.specs.inside.Exploring.{IsFoundOf, IsSearchOf}
-use Rattle.wiz_task.specs.inside.Recording.{IsReady}
+use Rattle.wiz_task.specs.inside.Recording.{IsReadyToRecord}
 use Rattle.wiz_runs.proofs.RaceFiles.{split_at}
 use Rattle.wiz_tool.specs.declared.report.Done.{Done as ToTell}
 use Rattle.wiz_tool.specs.declared.status.Status.{Status}
 use Rattle.wiz_tool.specs.declared.status.Status.TheVariants.{Done, Halted, Incomplete}
 use Rattle.wiz_tool.specs.Environment.{Environment}
 use Rattle.wiz_tool.specs.Inputs.{AreHeld}
-use Rattle.wiz_tool.specs.inside.Told.{outcome_of as outcome_told}
-use Rattle.wiz_tool.specs.Statuses.{number_of}
+use Rattle.wiz_tool.specs.inside.Told.{outcome_written as outcome_told}
+use Rattle.wiz_tool.specs.Statuses.{status_number}
 use Rattle.wiz_words.specs.declared.command.RunWords.{RunWords}
 
 -- ---- what is found
@@ -60,11 +61,11 @@ read_back n turns are = IsOrderText-turns n turns (each_turn n turns are.ranks a
 -- each outcome that is listed is that of a recording
 pub found_of : (ready : Ready) (polls : ℕ) (explored : Explored)
     → IsExplored (next_of (pure_program ready.program)) (output_of (pure_program ready.program)) (number_of_ranks ready.plan) polls ready.turns explored
-    → (found : Found) → IsIn found explored.found → IsFoundOf ready found
+    → (found : FoundOutcome) → IsIn found explored.found → IsFoundOf ready found
 found_of ready polls explored is found there =
     let sound = is.sound found there in
     record {
-      run = made_by (next_of (pure_program ready.program)) (number_of_ranks ready.plan) ready.turns ++ sound.more;
+      run = events_of_turns (next_of (pure_program ready.program)) (number_of_ranks ready.plan) ready.turns ++ sound.more;
       taken = sound.taken;
       ranks = sound.turns.ranks;
     }
@@ -114,12 +115,12 @@ pub waits_told : (n ranks : ℕ) (run : List Event) (graph : Graph) (text : List
     → text ≡ waits_of n run (WasHalted Stuck)
 waits_told n ranks run graph text many graph_is text_is = rw (text_is, graph_is, many) refl
 
-pub stuck_waits : (next : Next) (n : ℕ) (found : Found) (result : Result (List ℕ) AllocError) → found.outcome.ending ≡ WasHalted Stuck
-    → IfOk result (λ text. (run : List Event) × IsTaken next n found.turns run × (text ≡ waits_of n run (WasHalted Stuck))) → IfOk result (IsWaiting next n found)
+pub stuck_waits : (next : Next) (n : ℕ) (found : FoundOutcome) (result : Result (List ℕ) AllocError) → found.outcome.ending ≡ WasHalted Stuck
+    → IfOk result (λ text. (run : List Event) × IsRunByTurns next n found.turns run × (text ≡ waits_of n run (WasHalted Stuck))) → IfOk result (IsWaiting next n found)
 stuck_waits next n found (Ok text) is (run, taken, text_is) = record { run = run; taken = taken; text_is = rw is text_is }
 stuck_waits next n found (Err error) is told = told
 
-pub nobody_waits : (ready : Ready) (found : Found) → IsFoundOf ready found → (found.outcome.ending ≡ WasHalted Stuck → ⊥)
+pub nobody_waits : (ready : Ready) (found : FoundOutcome) → IsFoundOf ready found → (found.outcome.ending ≡ WasHalted Stuck → ⊥)
     → IsWaiting (next_of (pure_program ready.program)) (number_of_ranks ready.plan) found []
 nobody_waits ready found is apart =
     record { run = is.run; taken = is.taken; text_is = sym (none_waits (number_of_ranks ready.plan) is.run found.outcome.ending apart) }
@@ -128,11 +129,11 @@ nobody_waits ready found is apart =
 
 -- with 0 no outcome was halted, no state is left and no rank was held back
 done_of : (halted whole : Bool) → (if halted then Halted else if whole then Done else Incomplete) ≡ Done → (halted ≡ false) × (whole ≡ true)
-done_of true whole is = (let no : 7 ≡ 0 = ap number_of is in absurd (omega (arith, no)))
+done_of true whole is = (let no : 7 ≡ 0 = ap status_number is in absurd (omega (arith, no)))
 done_of false true is = (refl, refl)
-done_of false false is = (let no : 16 ≡ 0 = ap number_of is in absurd (omega (arith, no)))
+done_of false false is = (let no : 16 ≡ 0 = ap status_number is in absurd (omega (arith, no)))
 
-all_looked_at : (left : List (List Turn)) (polled : Bool) → is_complete left polled ≡ true → (left ≡ []) × (polled ≡ false)
+all_looked_at : (left : List (List Turn)) (polled : Bool) → is_exploration_complete left polled ≡ true → (left ≡ []) × (polled ≡ false)
 all_looked_at [] false whole = (refl, refl)
 all_looked_at [] true whole = absurd (cc)
 all_looked_at (turns ∷ left) polled whole = absurd (cc)
@@ -141,12 +142,12 @@ either_false : (a b : Bool) → (a || b) ≡ false → (a ≡ false) × (b ≡ f
 either_false true b none = absurd (cc)
 either_false false b none = (refl, none)
 
-none_in : (test : Found → Bool) (listed : List Found) (found : Found) → list_any test listed ≡ false → IsIn found listed → test found ≡ false
+none_in : (test : FoundOutcome → Bool) (listed : List FoundOutcome) (found : FoundOutcome) → list_any test listed ≡ false → IsIn found listed → test found ≡ false
 none_in test [] found none there = absurd there
 none_in test (one ∷ listed) found none (inl same) = ap test (sym same) ∙ (either_false (test one) (list_any test listed) none).0
 none_in test (one ∷ listed) found none (inr later) = none_in test listed found (either_false (test one) (list_any test listed) none).1 later
 
-finished_told : (ending : Ending) → is_halted (ending_told ending) ≡ false → ending ≡ Finished
+finished_told : (ending : Ending) → is_halted (reported_ending ending) ≡ false → ending ≡ Finished
 finished_told Finished free = refl
 finished_told (WasHalted (Aborted rank code)) free = absurd (cc)
 finished_told (WasHalted (Trapped rank fault)) free = absurd (cc)
@@ -158,19 +159,19 @@ finished_told (WasHalted Stuck) free = absurd (cc)
 
 -- so no whole run is halted
 all_finish : (next : Next) (output : Output) (n polls : ℕ) (turns : List Turn) (explored : Explored) → IsExplored next output n polls turns explored
-    → of_search explored ≡ Done → (more : List Event) → IsWhole next n (made_by next n turns ++ more) → ending_of (made_by next n turns ++ more) ≡ Finished
+    → of_search explored ≡ Done → (more : List Event) → IsWholeRun next n (events_of_turns next n turns ++ more) → ending_of (events_of_turns next n turns ++ more) ≡ Finished
 all_finish next output n polls turns explored is done more whole =
-    let halts : Found → Bool = λ found. is_halted found.outcome.ending in
-    let parts = done_of (list_any halts explored.found) (is_complete explored.left explored.polled) done in
+    let halts : FoundOutcome → Bool = λ found. is_halted found.outcome.ending in
+    let parts = done_of (list_any halts explored.found) (is_exploration_complete explored.left explored.polled) done in
     let looked = all_looked_at explored.left explored.polled parts.1 in
-    let listed : IsListed explored.found (outcome_of output n (made_by next n turns ++ more)) = is.complete looked.0 looked.1 more whole in
-    let same : listed.0.outcome.ending ≡ ending_told (ending_of (made_by next n turns ++ more)) = ap (λ (o : RunOutcome). o.ending) listed.2 in
-    finished_told (ending_of (made_by next n turns ++ more)) (ap is_halted (sym same) ∙ none_in halts explored.found listed.0 parts.0 listed.1)
+    let listed : IsListed explored.found (outcome_of_run output n (events_of_turns next n turns ++ more)) = is.complete looked.0 looked.1 more whole in
+    let same : listed.0.outcome.ending ≡ reported_ending (ending_of (events_of_turns next n turns ++ more)) = ap (λ (o : RunOutcome). o.ending) listed.2 in
+    finished_told (ending_of (events_of_turns next n turns ++ more)) (ap is_halted (sym same) ∙ none_in halts explored.found listed.0 parts.0 listed.1)
 
 -- ---- what is done
 
 pub explore_done : (run : RunWords (List ℕ)) (prefix : List ℕ) (most polls : ℕ) (before : Environment) (texts : List (List ℕ)) (ready : Ready) (searched : Searched)
-    → AreHeld before.store.files (run_inputs run) texts → IsReady (run_texts texts) ready → IsSearchOf ready polls searched
+    → AreHeld before.store.files (run_inputs run) texts → IsReadyToRecord (run_texts texts) ready → IsSearchOf ready polls searched
     → IsDoneFor (search_task run prefix most polls) before (search_outcome prefix most polls searched.explored searched.waits)
 explore_done run prefix most polls before texts ready searched held is of =
     let n : ℕ = number_of_ranks ready.plan in (

@@ -6,9 +6,9 @@ use Rattle.c_program.specs.Program.{next_of}
 use Rattle.causes.specs.Before.{IsBefore}
 use Rattle.group_plan.specs.Plans.{number_of_ranks}
 use Rattle.mpi_call.specs.Lists.{IsIn}
-use Rattle.run_drawing.specs.declared.drawing.Mark.{Mark}
+use Rattle.run_drawing.specs.declared.drawing.DrawnMark.{DrawnMark}
 use Rattle.run_drawing.specs.Basis.{Basis}
-use Rattle.run_drawing.specs.Columns.{column, stops}
+use Rattle.run_drawing.specs.Columns.{column}
 use Rattle.run_drawing.specs.Drawings.{IsDrawing}
 use Rattle.run_drawing.specs.Drawn.{Drawn}
 use Rattle.run_drawing.specs.Laws.{GoesRight, HasAllReceived, HaveSameMates, HaveSameViews}
@@ -17,11 +17,12 @@ use Rattle.run_model.specs.Run.{IsRun}
 use Rattle.srr_record.specs.declared.recording.Recording.{Recording}
 use Rattle.svg_text.specs.SvgTexts.{svg_text}
 use Rattle.trace_json.specs.JsonTexts.{trace_json}
-use Rattle.trace_json.specs.Laws.{begin_of, end_of}
+use Rattle.trace_json.specs.Laws.{begin_of, mark_end}
 use Rattle.wait_graph.specs.Graph.{graph_of}
 use Rattle.wiz_base.specs.Decimals.{decimal_text}
+use Rattle.run_model.specs.Due.{stops}
 use Rattle.wiz_tool.specs.declared.status.Status.TheVariants.{TooMany}
-use Rattle.wiz_tool.specs.Outcomes.{Outcome, run_outcome}
+use Rattle.wiz_tool.specs.Outcomes.{TaskOutcome, run_outcome}
 use Rattle.wiz_tool.specs.Statuses.{of_ending}
 use Rattle.wiz_runs.specs.declared.commands.picture.TheConstants.{MOST_DRAWN}
 use Rattle.wiz_task.specs.Names.{Plan}
@@ -50,10 +51,10 @@ pub record IsDrawingOf (program : Program) (groups : Plan) (events : List Event)
   pub columns : (t u : ℕ) (event : Event) → slice_get events t ≡ Some event → stops event.reply ≡ false → IsBefore (number_of_ranks groups) events t u
       → column (basis_in groups events drawing is_drawing) t < column (basis_in groups events drawing is_drawing) u
   pub arrows : GoesRight drawing
-  pub lanes : (one other : Mark) → IsIn one drawing.marks → IsIn other drawing.marks → one.rank ≡ other.rank → one.number < other.number
+  pub lanes : (one other : DrawnMark) → IsIn one drawing.marks → IsIn other drawing.marks → one.rank ≡ other.rank → one.number < other.number
       → one.column < other.column
-  pub spans : (one other : Mark) → IsIn one drawing.marks → IsIn other drawing.marks → one.rank ≡ other.rank → one.number < other.number
-      → end_of one ≤ begin_of other
+  pub spans : (one other : DrawnMark) → IsIn one drawing.marks → IsIn other drawing.marks → one.rank ≡ other.rank → one.number < other.number
+      → mark_end one ≤ begin_of other
   pub same : (other : List Event) (another : Drawn) → IsRun (next_of program) (number_of_ranks groups) other → HaveSameViews events other
       → HaveSameMates events other → IsDrawing groups other another → drawing ≡ another
   pub mates : (other : List Event) → IsRun (next_of program) (number_of_ranks groups) other → HaveSameViews events other
@@ -71,13 +72,13 @@ abbrev pub picture_over_text : Text
 picture_over_text = codes "picture over " ++ decimal_text MOST_DRAWN ++ codes "\n"
 
 -- one file is written, and nothing is put out; without a picture no file is written, and a message is put out, also where the run was halted
-abbrev pub picture_outcome : Text → Recording → Option Text → Outcome
+abbrev pub picture_outcome : Text → Recording → Option Text → TaskOutcome
 picture_outcome file recording None = run_outcome TooMany picture_over_text recording []
 picture_outcome file recording (Some text) =
     record (run_outcome (of_ending recording.ending) [] recording []) { files = (record { name = file; bytes = text }) ∷ [] }
 
 -- the picture of a run is written, where it has one
-pub record TellsPicture (file : Text) (is_trace : Bool) (program : Program) (groups : Plan) (recording : Recording) (outcome : Outcome) : Type 0 where
+pub record TellsPicture (file : Text) (is_trace : Bool) (program : Program) (groups : Plan) (recording : Recording) (outcome : TaskOutcome) : Type 0 where
   pub picture : Option Text
   pub is_picture : IsPictureOf is_trace program groups recording picture
   pub is_outcome : outcome ≡ picture_outcome file recording picture

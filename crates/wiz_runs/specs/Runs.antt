@@ -8,9 +8,9 @@ use Rattle.explanation_text.specs.WaitsTexts.{waits_text}
 use Rattle.group_plan.specs.Plans.{number_of_ranks}
 use Rattle.mpi_call.specs.Lists.{IsIn}
 use Rattle.mpi_call.specs.declared.call.Halt.TheVariants.{Stuck}
-use Rattle.msg_races.specs.Names.{count_others, most_others}
+use Rattle.msg_races.specs.Names.{count_racing, most_racing}
 use Rattle.msg_races.specs.Races.{AreRaces}
-use Rattle.msg_races.specs.declared.receives.Receive.{Receive}
+use Rattle.msg_races.specs.declared.receives.WildcardReceive.{WildcardReceive}
 use Rattle.other_picks.specs.Others.{others_of}
 use Rattle.other_picks.specs.declared.other.OtherPick.{OtherPick}
 use Rattle.plan_advice.specs.Advices.{IsAdvice}
@@ -28,7 +28,7 @@ use Rattle.wiz_base.specs.Decimals.{decimal_text}
 use Rattle.wiz_runs.specs.Demos.{demo_plan}
 use Rattle.wiz_runs.specs.Explorations.{Explores}
 use Rattle.wiz_runs.specs.RaceOrders.{IsOtherOrder, order_files}
-use Rattle.wiz_runs.specs.RecordFiles.{files_of}
+use Rattle.wiz_runs.specs.RecordFiles.{recording_files}
 use Rattle.wiz_task.specs.Recordings.{Records, RunTexts}
 use Rattle.wiz_task.specs.Replayings.{AreChecksOf}
 use Rattle.wiz_task.specs.Requirements.{Requirement, a_plan, a_program, an_order}
@@ -36,7 +36,7 @@ use Rattle.wiz_runs.specs.StuckRuns.{HasReason, IsStuckExactly}
 use Rattle.wiz_task.specs.Names.{Plan}
 use Rattle.wiz_task.specs.Tasks.{Task}
 use Rattle.wiz_tool.specs.Inputs.{Input, input, option_input, order_limit, text_limit}
-use Rattle.wiz_tool.specs.Outcomes.{Outcome, run_outcome}
+use Rattle.wiz_tool.specs.Outcomes.{TaskOutcome, run_outcome}
 use Rattle.wiz_tool.specs.Statuses.{of_ending}
 use Rattle.wiz_tool.specs.declared.status.Status.TheVariants.{TooMany}
 use Rattle.wiz_trace.specs.CheckTexts.{check_text}
@@ -63,43 +63,43 @@ run_texts (text ∷ plan ∷ order ∷ more) = record { program = text; plan = p
 run_texts texts = record { program = []; plan = []; order = None }
 
 -- the logs and the order of a run are written, and the record text is put out
-abbrev pub record_outcome : Text → Recording → Outcome
+abbrev pub record_outcome : Text → Recording → TaskOutcome
 record_outcome prefix recording = record {
-  files = files_of prefix recording;
+  files = recording_files prefix recording;
   text = record_text recording.outputs recording.ending;
   status = of_ending recording.ending;
   run = Some recording.history;
   replays = [];
 }
 
-abbrev pub check_outcome : Text → Recording → List Replayed → Outcome
+abbrev pub check_outcome : Text → Recording → List Replayed → TaskOutcome
 check_outcome text recording replays = run_outcome (of_ending recording.ending) text recording replays
 
 -- the message of a run with too many races
 abbrev pub races_over_text : List ℕ
-races_over_text = codes "races over " ++ decimal_text most_others ++ codes "\n"
+races_over_text = codes "races over " ++ decimal_text most_racing ++ codes "\n"
 
 -- the receives of a run are listed; a message is put out where they have too many others, also where the run was halted
-abbrev pub races_told : List Receive → Recording → Outcome
-races_told receives recording =
-    if nat_le (count_others receives) most_others then check_outcome (races_text receives recording.ending) recording []
+abbrev pub reported_races : List WildcardReceive → Recording → TaskOutcome
+reported_races receives recording =
+    if nat_le (count_racing receives) most_racing then check_outcome (races_text receives recording.ending) recording []
     else run_outcome TooMany races_over_text recording []
 
 -- and the order files of its other picks are written, where a prefix is given
-abbrev pub races_outcome : Option Text → ℕ → List Receive → Recording → Outcome
-races_outcome orders n receives recording = record (races_told receives recording) { files = order_files orders n recording }
+abbrev pub races_outcome : Option Text → ℕ → List WildcardReceive → Recording → TaskOutcome
+races_outcome orders n receives recording = record (reported_races receives recording) { files = order_files orders n recording }
 
 -- who waits for whom in a run is told
-abbrev pub waits_outcome : ℕ → Recording → Outcome
+abbrev pub waits_outcome : ℕ → Recording → TaskOutcome
 waits_outcome n recording =
     let events = recording.history.events in
     check_outcome (waits_text n events (graph_of n events) recording.ending) recording []
 
 -- how a recording is told: as it is, or when the log of each group is replayed
-abbrev pub TellsRecord : Text → Program → Plan → Recording → Outcome → Type 0
+abbrev pub TellsRecord : Text → Program → Plan → Recording → TaskOutcome → Type 0
 TellsRecord prefix program groups recording outcome = outcome ≡ record_outcome prefix recording
 
-abbrev pub TellsCheck : (Plan → Recording → List Replayed → Text) → Program → Plan → Recording → Outcome → Type 0
+abbrev pub TellsCheck : (Plan → Recording → List Replayed → Text) → Program → Plan → Recording → TaskOutcome → Type 0
 TellsCheck text program groups recording outcome =
     (replays : List Replayed) × AreChecksOf program recording.history.events recording.logs replays
     × (outcome ≡ check_outcome (text groups recording replays) recording replays)
@@ -112,17 +112,17 @@ demonstrated seed rounds groups recording replays = demo_text seed rounds record
 
 -- its message races are told: the one list of them that the run has. The order of each other pick of it, of which the first are written,
 -- is recorded into a run in which the receive has another mate
-pub record TellsRaces (orders : Option Text) (program : Program) (groups : Plan) (recording : Recording) (outcome : Outcome) : Type 0 where
-  pub receives : List Receive
+pub record TellsRaces (orders : Option Text) (program : Program) (groups : Plan) (recording : Recording) (outcome : TaskOutcome) : Type 0 where
+  pub receives : List WildcardReceive
   pub are_races : AreRaces (number_of_ranks groups) recording.history.events receives
-  pub only : (others : List Receive) → AreRaces (number_of_ranks groups) recording.history.events others → others ≡ receives
+  pub only : (others : List WildcardReceive) → AreRaces (number_of_ranks groups) recording.history.events others → others ≡ receives
   pub is_outcome : outcome ≡ races_outcome orders (number_of_ranks groups) receives recording
   pub others : (other : OtherPick) → IsIn other (others_of (number_of_ranks groups) recording.history.events)
       → IsOtherOrder (next_of program) (number_of_ranks groups) recording other
 
 -- the advice on its groups is told, with blocks of at most so many ranks, or of all where these are fewer: the one advice that the run
 -- has, and no cutting into such blocks costs less
-abbrev pub TellsAdvice : ℕ → Program → Plan → Recording → Outcome → Type 0
+abbrev pub TellsAdvice : ℕ → Program → Plan → Recording → TaskOutcome → Type 0
 TellsAdvice most program groups recording outcome =
     let n = number_of_ranks groups in
     let events = recording.history.events in
@@ -133,7 +133,7 @@ TellsAdvice most program groups recording outcome =
 
 -- who waits for whom is told, by the definition of it; a run that is stuck has a reason that is told, and no message that nobody has received
 -- fits a receive that waits
-pub record TellsWaits (program : Program) (groups : Plan) (recording : Recording) (outcome : Outcome) : Type 0 where
+pub record TellsWaits (program : Program) (groups : Plan) (recording : Recording) (outcome : TaskOutcome) : Type 0 where
   pub is_outcome : outcome ≡ waits_outcome (number_of_ranks groups) recording
   pub stuck : IsStuckExactly (next_of program) (number_of_ranks groups) recording.history.events
   pub reason : halted recording.history.events ≡ Some Stuck → HasReason (next_of program) (number_of_ranks groups) recording.history.events
@@ -142,7 +142,7 @@ pub record TellsWaits (program : Program) (groups : Plan) (recording : Recording
 -- ---- the tasks
 
 -- a run is recorded, and told
-abbrev pub run_task : RunWords Text → (Program → Plan → Recording → Outcome → Type 0) → Task
+abbrev pub run_task : RunWords Text → (Program → Plan → Recording → TaskOutcome → Type 0) → Task
 run_task run Tells =
     record { inputs = run_inputs run; requirements = run_requirements; Does = λ texts. Records (is_threaded_run run) (run_texts texts) Tells }
 

@@ -1,6 +1,6 @@
 -- Reading input files, and what is required of them.
 use Rattle.std.proofs.Common.{◌≡◌, ◌<◌, ◌≤◌, ◌++◌, ℕ, List, [], ◌∷◌, Some, None, IfSome, arith, inl, inr, length}
-use Rattle.wiz_io.specs.Files.{FilesTold}
+use Rattle.wiz_io.specs.Files.{ObservedFiles}
 use Rattle.wiz_tool.specs.declared.failure.Failure.{Failure}
 use Rattle.wiz_tool.specs.declared.failure.Failure.TheVariants.{Refused as IsRefused, OutOfMemory}
 use Rattle.wiz_tool.specs.declared.refusal.Refusal.{Refusal}
@@ -19,7 +19,7 @@ weaken P Q weaker OutOfMemory is = tt
 -- ---- files
 
 -- a count that rose later rose
-unread_earlier : (before mid after : FilesTold) (input : Input) (refusal : Refusal) → mid.files ≡ before.files → before.reads ≤ mid.reads
+unread_earlier : (before mid after : ObservedFiles) (input : Input) (refusal : Refusal) → mid.files ≡ before.files → before.reads ≤ mid.reads
     → IsUnread mid after input refusal → IsUnread before after input refusal
 unread_earlier before mid after input Words same later unread = unread
 unread_earlier before mid after input Missing same later unread =
@@ -35,7 +35,7 @@ unread_earlier before mid after input (BadRefine fault) same later unread = unre
 unread_earlier before mid after input (BadJoin fault) same later unread = unread
 unread_earlier before mid after input (BadCompare fault) same later unread = unread
 
-first_earlier : (before mid after : FilesTold) (inputs : List Input) (refused : Refused) → mid.files ≡ before.files → before.reads ≤ mid.reads
+first_earlier : (before mid after : ObservedFiles) (inputs : List Input) (refused : Refused) → mid.files ≡ before.files → before.reads ≤ mid.reads
     → IsFirstUnread mid after inputs refused → IsFirstUnread before after inputs refused
 first_earlier before mid after [] refused same later unread = unread
 first_earlier before mid after (input ∷ inputs) refused same later (inl here) =
@@ -44,21 +44,21 @@ first_earlier before mid after (input ∷ inputs) refused same later (inr behind
     inr (rw same at behind.0, first_earlier before mid after inputs refused same later behind.1)
 
 -- one of those after it is not read
-pub later_unread : (before mid after : FilesTold) (input : Input) (inputs : List Input) (requirements : List (List ℕ) → List Requirement) (failure : Failure)
+pub later_unread : (before mid after : ObservedFiles) (input : Input) (inputs : List Input) (requirements : List (List ℕ) → List Requirement) (failure : Failure)
     → IsThere before.files input → mid.files ≡ before.files → before.reads ≤ mid.reads → IsFailureBy (IsFirstUnread mid after inputs) failure
     → IsFailureBy (IsRefusedBy before after (input ∷ inputs) requirements) failure
 later_unread before mid after input inputs requirements failure there same later is =
     weaken (IsFirstUnread mid after inputs) (IsRefusedBy before after (input ∷ inputs) requirements)
     (λ refused unread. inl (inr (there, first_earlier before mid after inputs refused same later unread))) failure is
 
-pub second_unread : (before mid after : FilesTold) (input second : Input) (inputs : List Input) (requirements : List (List ℕ) → List Requirement) (failure : Failure)
+pub second_unread : (before mid after : ObservedFiles) (input second : Input) (inputs : List Input) (requirements : List (List ℕ) → List Requirement) (failure : Failure)
     → IsThere before.files input → mid.files ≡ before.files → before.reads ≤ mid.reads → IsFailureBy (IsUnreadInput mid after second) failure
     → IsFailureBy (IsRefusedBy before after (input ∷ second ∷ inputs) requirements) failure
 second_unread before mid after input second inputs requirements failure there same later is =
     later_unread before mid after input (second ∷ inputs) requirements failure there same later
     (weaken (IsUnreadInput mid after second) (IsFirstUnread mid after (second ∷ inputs)) (λ refused unread. inl unread) failure is)
 
-pub third_unread : (before mid after : FilesTold) (input second : Input) (inputs : List Input) (requirements : List (List ℕ) → List Requirement) (failure : Failure)
+pub third_unread : (before mid after : ObservedFiles) (input second : Input) (inputs : List Input) (requirements : List (List ℕ) → List Requirement) (failure : Failure)
     → IsThere before.files input → IsThere mid.files second → mid.files ≡ before.files → before.reads ≤ mid.reads
     → IsFailureBy (IsFirstUnread mid after inputs) failure → IsFailureBy (IsRefusedBy before after (input ∷ second ∷ inputs) requirements) failure
 third_unread before mid after input second inputs requirements failure there then same later is =
@@ -66,7 +66,7 @@ third_unread before mid after input second inputs requirements failure there the
     (weaken (IsFirstUnread mid after inputs) (IsFirstUnread mid after (second ∷ inputs)) (λ refused unread. inr (then, unread)) failure is)
 
 -- all are read, and a requirement is not met
-pub unmet : (before after : FilesTold) (inputs : List Input) (requirements : List (List ℕ) → List Requirement) (texts : List (List ℕ)) (failure : Failure)
+pub unmet : (before after : ObservedFiles) (inputs : List Input) (requirements : List (List ℕ) → List Requirement) (texts : List (List ℕ)) (failure : Failure)
     → AreHeld before.files inputs texts → IsFailureBy (IsUnmetIn (requirements texts)) failure → IsFailureBy (IsRefusedBy before after inputs requirements) failure
 unmet before after inputs requirements texts failure held is =
     weaken (IsUnmetIn (requirements texts)) (IsRefusedBy before after inputs requirements) (λ refused first. inr (texts, held, first.0, first.1)) failure is

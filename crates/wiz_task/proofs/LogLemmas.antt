@@ -5,7 +5,7 @@ use Rattle.mpi_call.specs.Collectives.{is_distinct, is_member}
 use Rattle.run_model.proofs.Views.{test_cases}
 use Rattle.srr_entry.specs.declared.log.Log.{Log}
 use Rattle.mpi_call.specs.Lists.{Rises}
-use Rattle.srr_text.specs.Bounds.{IsInBounds}
+use Rattle.srr_log.specs.Bounds.{IsInBounds}
 use Rattle.srr_log2.specs.Formats.{IsTextOfLog}
 use Rattle.srr_replay.specs.Rounds.{IsReplayable}
 

@@ -9,7 +9,7 @@ use Rattle.explanation_text.specs.OrderTexts.{order_text}
 use Rattle.group_plan.specs.OrderText.{IsOrderText}
 use Rattle.group_plan.specs.Plans.{number_of_ranks}
 use Rattle.group_plan.specs.PlanText.{IsPlanText}
-use Rattle.log_bounds.specs.RunBounds.{log_limit}
+use Rattle.srr_log.specs.declared.limits.TheConstants.{MOST_LOG_BYTES}
 use Rattle.replay_model.specs.Laws.{IsRunWith}
 use Rattle.run_model.specs.declared.event.Event.{Event}
 use Rattle.picked_runs.specs.declared.turn.Pick.{Pick}
@@ -17,7 +17,7 @@ use Rattle.picked_runs.specs.declared.turn.Turn.{Turn}
 use Rattle.picked_runs.specs.Made.{picks_of}
 use Rattle.picked_runs.specs.Numbering.{AreNumberedInOrder}
 use Rattle.picked_runs.specs.Picked.{IsPicked}
-use Rattle.picked_runs.specs.Turns.{IsTaken, turns_of}
+use Rattle.picked_runs.specs.Turns.{IsRunByTurns, turns_of}
 use Rattle.run_model.specs.Chosen.{order_of}
 use Rattle.run_model.specs.Lists.{IsPrefixOf}
 use Rattle.run_model.specs.MachineLaws.{has_stuck}
@@ -28,7 +28,7 @@ use Rattle.srr_log2.specs.LogBytes.{AreLogBytes, log_bytes}
 use Rattle.srr_record.specs.declared.recording.Recording.{Recording}
 use Rattle.srr_record.specs.Recordings.{IsRecorded}
 use Rattle.wiz_task.specs.Names.{Plan}
-use Rattle.wiz_tool.specs.Outcomes.{Outcome}
+use Rattle.wiz_tool.specs.Outcomes.{TaskOutcome}
 
 -- the texts of a run: a program, a plan, and an order, where one is given
 pub record RunTexts : Type 0 where
@@ -51,8 +51,8 @@ pub record ArePrepared (texts : RunTexts) (program : Program) (groups : Plan) (t
 -- with each run that the matching rules allow, where they are its order and what it picked; the run has no Stuck reply, and its new
 -- communicators are numbered as a recording numbers them
 pub record IsInTurns (next : Next) (n : ℕ) (turns : List Turn) (events : List Event) : Type 0 where
-  pub taken : IsTaken next n turns events
-  pub only : (others : List Event) → IsTaken next n turns others → others ≡ events
+  pub taken : IsRunByTurns next n turns events
+  pub only : (others : List Event) → IsRunByTurns next n turns others → others ≡ events
   pub picked : (picks : List Pick) (run : List Event) → IsPicked next n picks run → has_stuck run ≡ false → turns_of (order_of run) picks ≡ turns → IsPrefixOf run events
   pub allowed : (run : List Event) → IsRun next n run → AreNumberedInOrder n run → has_stuck run ≡ false → turns_of (order_of run) (picks_of n run) ≡ turns → IsPrefixOf run events
 
@@ -69,7 +69,7 @@ IsOrderOf n recording =
 -- the text of a log in format 2 is one that a log file may have, and is read as this log
 pub record IsReadable (log : Log) : Type 0 where
   pub is_text : AreLogBytes (log_bytes log) log
-  pub short : length (log_bytes log) ≤ log_limit
+  pub short : length (log_bytes log) ≤ MOST_LOG_BYTES
 
 -- a run of the program on the plan's ranks in which each has ended, with the log of each group, what each rank printed, and how it
 -- ended; on one thread it is that of the turns. Its order and what it picked fix it, and can be read back. So can each log, which is one of
@@ -83,7 +83,7 @@ pub record IsRecordingOf (is_threaded : Bool) (text : Text) (program : Program) 
   pub of_the_run : AllByRecursion (λ log. IsRunWith (next_of program) log recording.history.events) recording.logs
 
 -- a run of what the texts hold is recorded, and the outcome tells it
-pub record Records (is_threaded : Bool) (texts : RunTexts) (Tells : Program → Plan → Recording → Outcome → Type 0) (outcome : Outcome) : Type 0 where
+pub record Records (is_threaded : Bool) (texts : RunTexts) (Tells : Program → Plan → Recording → TaskOutcome → Type 0) (outcome : TaskOutcome) : Type 0 where
   pub program : Program
   pub groups : Plan
   pub turns : List Turn

@@ -3,7 +3,7 @@ ghost use Rattle.std.specs.Prelude.{◌≡◌, ◌∷◌, ◌≤◌, [], IfErr, 
 ghost use Rattle.c_program.specs.View.{pure_program};
 ghost use Rattle.c_types.specs.Checks.{IsProgramOf};
 ghost use Rattle.group_plan.specs.PlanText.{IsPlanText};
-ghost use Rattle.log_bounds.specs.RunBounds.{log_limit};
+ghost use Rattle.srr_log.specs.declared.limits.TheConstants.{MOST_LOG_BYTES};
 ghost use Rattle.srr_log2.specs.Formats.{IsTextOfLog};
 ghost use Rattle.srr_regroup.specs.Joining.{CanJoin};
 ghost use Rattle.view_diff.specs.Comparing.{CanCompare};
@@ -80,7 +80,7 @@ pub fn turns_in(alloc: Global, text: &Option<Bytes>, n: u8) -> Result<Turns, Fai
 
 /// The log with these bytes, in either format.
 pub fn log_in(alloc: Global, bytes: &[u8]) -> Result<Log, Failure<'static>>
-    requires { length bytes.now ≤ log_limit }
+    requires { length bytes.now ≤ MOST_LOG_BYTES }
     ensures log { IfOk result (λ log. IsTextOfLog bytes.now log) }
     ensures within { IfOk result (λ log. length log.program ≤ text_limit) }
     ensures refused { IfErr result (IsFailureBy (IsUnmetIn (a_log bytes.now ∷ []))) }

@@ -2,7 +2,7 @@
 ghost use Rattle.c_program.specs.View.{pure_program};
 ghost use Rattle.std.specs.Prelude.{Bool, IfOk};
 ghost use Rattle.srr_replay.specs.Rounds.{IsReplayable};
-ghost use Rattle.wiz_task.specs.inside.Recording.{CanRun, IsMade};
+ghost use Rattle.wiz_task.specs.inside.Recording.{CanRun, IsMadeRecording};
 ghost use Rattle.wiz_task.specs.inside.Replaying.{IsReplayBy};
 
 use crate::ready::Ready;
@@ -24,7 +24,7 @@ pub trait Runner {
     fn record(&self, alloc: Global, ready: &Ready) -> Result<Recording, AllocError>
         requires runs { runs self.now }
         requires ready { CanRun ready.now }
-        ensures { IfOk result (IsMade is_threaded ready.now) };
+        ensures { IfOk result (IsMadeRecording is_threaded ready.now) };
 
     /// The replay of a log with a program, up to the breakpoint if there is one.
     fn replay(

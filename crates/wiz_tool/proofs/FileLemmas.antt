@@ -6,7 +6,7 @@ use Rattle.wiz_tool.specs.declared.writing.Unwritten.{Unwritten}
 use Rattle.wiz_tool.specs.declared.writing.Unwritten.TheVariants.{Failed, OutOfMemory}
 use Rattle.wiz_tool.specs.Files.{AreWritten, AreWrittenUpTo, ArePartlyWritten, ChangesNone, IsStoppedAt, NamedFile}
 use Rattle.wiz_tool.specs.inside.Told.{IsStopped}
-use Rattle.wiz_io.specs.Files.{ChangesOnly, Files, FilesTold, HasFile, HasRisen}
+use Rattle.wiz_io.specs.Files.{ChangesOnly, Files, ObservedFiles, HasFile, HasRisen}
 
 -- each name is apart from each of the others
 abbrev pub AreApart : List (List ℕ) → List (List ℕ) → Type 0
@@ -116,7 +116,7 @@ ArePartlyWritten-behind before mid after front behind first (inr at) apart = inr
 pub HasRisen-earlier : (before mid after : ℕ) → before ≤ mid → HasRisen mid after → HasRisen before after
 HasRisen-earlier before mid after earlier risen = omega (arith, earlier, risen)
 
-pub IsStopped-behind : (before mid after : FilesTold) (front behind : List NamedFile) (why : Unwritten)
+pub IsStopped-behind : (before mid after : ObservedFiles) (front behind : List NamedFile) (why : Unwritten)
     → AreWritten before.files mid.files front [] → IsStopped mid after behind why → before.writes ≤ mid.writes → AreApart (names_of front) (names_of behind)
     → IsStopped before after (front ++ behind) why
 IsStopped-behind before mid after front behind (Failed name) first stopped later apart = (
@@ -145,7 +145,7 @@ AreWrittenUpTo-front before after front behind up = record {
   up_to = up.up_to;
 }
 
-pub IsStopped-front : (before after : FilesTold) (front behind : List NamedFile) (why : Unwritten) → IsStopped before after front why
+pub IsStopped-front : (before after : ObservedFiles) (front behind : List NamedFile) (why : Unwritten) → IsStopped before after front why
     → IsStopped before after (front ++ behind) why
 IsStopped-front before after front behind (Failed name) stopped = (stopped.0, IsStoppedAt-front before.files after.files front behind _ stopped.1)
 IsStopped-front before after front behind OutOfMemory (inl up) = inl (AreWrittenUpTo-front before.files after.files front behind up)

@@ -1,14 +1,14 @@
 -- The environment of a call: its files and its output, as it meets and leaves them.
 use denote.MutBor.{MutBor}
 use denote.Triple.Both.{Both}
-use Rattle.wiz_io.specs.Files.{FilesTold}
-use Rattle.wiz_io.specs.Output.{OutTold}
+use Rattle.wiz_io.specs.Files.{ObservedFiles}
+use Rattle.wiz_io.specs.Output.{ObservedOutput}
 
 pub record Environment : Type 0 where
-  pub store : FilesTold
-  pub out : OutTold
+  pub store : ObservedFiles
+  pub out : ObservedOutput
 
-abbrev pub environment : FilesTold → OutTold → Environment
+abbrev pub environment : ObservedFiles → ObservedOutput → Environment
 environment store out = record { store = store; out = out }
 
 -- that of a call before it and after it
@@ -16,10 +16,10 @@ pub record Around : Type 0 where
   pub before : Environment
   pub after : Environment
 
-abbrev pub between : Environment → Environment → Around
-between before after = record { before = before; after = after }
+abbrev pub around_of : Environment → Environment → Around
+around_of before after = record { before = before; after = after }
 
 -- by what the store and the sink of the call tell
-abbrev pub around : {S K : Type 0} → (S → FilesTold) → (K → OutTold) → Both (MutBor S) (MutBor S) → Both (MutBor K) (MutBor K) → Around
+abbrev pub around : {S K : Type 0} → (S → ObservedFiles) → (K → ObservedOutput) → Both (MutBor S) (MutBor S) → Both (MutBor K) (MutBor K) → Around
 around store_told out_told store out =
-    between (environment (store_told store.entry.now) (out_told out.entry.now)) (environment (store_told store.exit.now) (out_told out.exit.now))
+    around_of (environment (store_told store.entry.now) (out_told out.entry.now)) (environment (store_told store.exit.now) (out_told out.exit.now))

@@ -1,9 +1,9 @@
 //! The end of a command that writes files.
 ghost use Rattle.std.specs.Prelude.{◌≡◌, [], List, IfErr, OnOk};
-ghost use Rattle.wiz_io.specs.Files.{FilesTold};
+ghost use Rattle.wiz_io.specs.Files.{ObservedFiles};
 ghost use Rattle.wiz_tool.specs.Files.{AreWritten, NamedFile};
-ghost use Rattle.wiz_tool.specs.Environment.{Environment, between, environment};
-ghost use Rattle.wiz_tool.specs.inside.Told.{IsStopped, IsToldBy, outcome_of};
+ghost use Rattle.wiz_tool.specs.Environment.{Environment, around_of, environment};
+ghost use Rattle.wiz_tool.specs.inside.Told.{IsStopped, IsReportedBy, outcome_written};
 
 use crate::report::{Done, Report, tell, tell_unwritten};
 use crate::writing::Unwritten;
@@ -17,10 +17,10 @@ pub fn finish<K: Sink>(
     done: Done,
     out: &mut K,
 ) -> Result<Report, AllocError>
-    ensures { (files : List NamedFile) (before : Environment) (store : FilesTold) → before.out ≡ K.told out.old
+    ensures { (files : List NamedFile) (before : Environment) (store : ObservedFiles) → before.out ≡ K.observed out.old
         → OnOk written (AreWritten before.store.files store.files files [])
         → IfErr written (IsStopped before.store store files)
-        → IsToldBy (outcome_of files done) (between before (environment store (K.told out.new))) result }
+        → IsReportedBy (outcome_written files done) (around_of before (environment store (K.observed out.new))) result }
 {
     match written {
         Ok(()) => tell(done, out),

@@ -4,8 +4,8 @@ ghost use Rattle.wiz_tool.specs.Outcomes.{run_outcome, text_outcome, IsPut, out_
 ghost use Rattle.wiz_tool.specs.Files.{NamedFile};
 ghost use Rattle.wiz_tool.specs.Messages.{unwritten_text};
 ghost use Rattle.wiz_tool.specs.Output.{GrewByPart, HasSaid};
-ghost use Rattle.wiz_tool.specs.Statuses.{number_of};
-ghost use Rattle.wiz_tool.specs.inside.Told.{IsRefusalTold, IsSettled, outcome_of};
+ghost use Rattle.wiz_tool.specs.Statuses.{status_number};
+ghost use Rattle.wiz_tool.specs.inside.Told.{IsRefusalReported, IsReportSettled, outcome_written};
 ghost use Rattle.wiz_tool.specs.declared.status.Status.TheVariants.{Unwritten};
 
 use crate::failure::Failure;
@@ -35,7 +35,7 @@ pub struct Report {
 impl Report {
     /// A report of this status. Takes no memory.
     pub fn new(status: Status, run: Option<History>, replayed: Replays) -> Self
-        ensures { result ≡ record { status = number_of status; run = run; replayed = replayed } }
+        ensures { result ≡ record { status = status_number status; run = run; replayed = replayed } }
     {
         Report {
             status: status.number(),
@@ -56,7 +56,7 @@ pub struct Done {
 
 /// A text, told with status 0.
 pub fn text_alone(alloc: Global, text: Bytes) -> Done
-    ensures { outcome_of [] result ≡ text_outcome text }
+    ensures { outcome_written [] result ≡ text_outcome text }
 {
     Done {
         text,
@@ -68,7 +68,7 @@ pub fn text_alone(alloc: Global, text: Bytes) -> Done
 
 /// A text of a run, told with a status. There are no replays.
 pub fn text_of_run(alloc: Global, text: Bytes, status: Status, recording: Recording) -> Done
-    ensures { outcome_of [] result ≡ run_outcome status text recording [] }
+    ensures { outcome_written [] result ≡ run_outcome status text recording [] }
 {
     Done {
         text,
@@ -93,8 +93,8 @@ pub fn text_of_replays(text: Bytes, status: Status, replays: Replays) -> Done
 /// Puts the text out, and reports the rest. Of an empty text there is nothing to put.
 #[tactic(auto, using(crate::proofs::TellLemmas::empty_put))]
 pub fn tell<K: Sink>(done: Done, out: &mut K) -> Result<Report, AllocError>
-    ensures put { IfOk result (λ report. (files : List NamedFile) → IsPut (outcome_of files done) (K.told out.old) (K.told out.new) report) }
-    ensures err { OnErr result (GrewByPart (K.told out.old).bytes (K.told out.new).bytes done.text) }
+    ensures put { IfOk result (λ report. (files : List NamedFile) → IsPut (outcome_written files done) (K.observed out.old) (K.observed out.new) report) }
+    ensures err { OnErr result (GrewByPart (K.observed out.old).bytes (K.observed out.new).bytes done.text) }
 {
     if done.text.is_empty() {
         return Ok(Report::new(done.status, done.run, done.replays));
@@ -109,8 +109,8 @@ pub fn tell<K: Sink>(done: Done, out: &mut K) -> Result<Report, AllocError>
 
 /// Puts a message out. A fault of the sink changes no status.
 pub fn put_message<K: Sink>(text: &[u8], out: &mut K) -> Result<(), AllocError>
-    ensures said { OnOk result (HasSaid (K.told out.old) (K.told out.new) text.now) }
-    ensures err { OnErr result (GrewByPart (K.told out.old).bytes (K.told out.new).bytes text.now) }
+    ensures said { OnOk result (HasSaid (K.observed out.old) (K.observed out.new) text.now) }
+    ensures err { OnErr result (GrewByPart (K.observed out.old).bytes (K.observed out.new).bytes text.now) }
 {
     match out.put(text) {
         Ok(()) | Err(PutFault::Failed) => Ok(()),
@@ -126,8 +126,8 @@ pub fn tell_unwritten<K: Sink>(
     replays: Replays,
     out: &mut K,
 ) -> Result<Report, AllocError>
-    ensures said { IfOk result (λ report. HasSaid (K.told out.old) (K.told out.new) (unwritten_text name.now) × (report ≡ record { status = number_of Unwritten; run = run; replayed = replays })) }
-    ensures err { OnErr result (GrewByPart (K.told out.old).bytes (K.told out.new).bytes (unwritten_text name.now)) }
+    ensures said { IfOk result (λ report. HasSaid (K.observed out.old) (K.observed out.new) (unwritten_text name.now) × (report ≡ record { status = status_number Unwritten; run = run; replayed = replays })) }
+    ensures err { OnErr result (GrewByPart (K.observed out.old).bytes (K.observed out.new).bytes (unwritten_text name.now)) }
 {
     let mut text = Bytes::new(alloc);
     push_about_file(&mut text, b"cannot write ", name)?;
@@ -137,7 +137,7 @@ pub fn tell_unwritten<K: Sink>(
 
 /// The report of a command that came to its end, or else what it failed by, told.
 pub fn settle<K: Sink>(alloc: Global, answered: Result<Report, Failure<'_>>, out: &mut K) -> Report
-    ensures { IsSettled answered.entry (K.told out.old) (K.told out.new) result }
+    ensures { IsReportSettled answered.entry (K.observed out.old) (K.observed out.new) result }
 {
     match answered {
         Ok(report) => report,
@@ -155,7 +155,7 @@ fn out_of_memory(alloc: Global) -> Report
 
 /// Tells a refusal.
 fn refuse<K: Sink>(alloc: Global, refusal: Refusal, name: &str, out: &mut K) -> Report
-    ensures { IsRefusalTold (record { refusal = refusal; name = name.now }) (K.told out.old) (K.told out.new) result }
+    ensures { IsRefusalReported (record { refusal = refusal; name = name.now }) (K.observed out.old) (K.observed out.new) result }
 {
     let Ok(text) = message(alloc, refusal, name) else {
         return out_of_memory(alloc);

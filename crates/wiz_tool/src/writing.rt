@@ -1,7 +1,7 @@
 //! Files that are written.
 ghost use Rattle.std.specs.Prelude.{◌≡◌, ◌≤◌, ◌∷◌, [], IfErr, IfOk, OnOk};
 ghost use Rattle.std.specs.String.{string_bytes};
-ghost use Rattle.srr_text.specs.Bounds.{IsInBounds};
+ghost use Rattle.srr_log.specs.Bounds.{IsInBounds};
 ghost use Rattle.wiz_tool.specs.Files.{AreWritten};
 ghost use Rattle.wiz_tool.specs.LogFiles.{log_files, log_name};
 ghost use Rattle.wiz_tool.specs.inside.Told.{IsStopped};
@@ -39,10 +39,10 @@ pub fn write_log_file<S: Store>(
     store: &mut S,
 ) -> Result<(), Unwritten>
     requires { IsInBounds log.now }
-    ensures ok { OnOk result (AreWritten (S.told store.old).files (S.told store.new).files (log_files prefix.now group (log.now ∷ [])) []) }
-    ensures stopped { IfErr result (λ why. IsStopped (S.told store.old) (S.told store.new) (log_files prefix.now group (log.now ∷ [])) why) }
-    ensures reads { (S.told store.new).reads ≡ (S.told store.old).reads }
-    ensures later { (S.told store.old).writes ≤ (S.told store.new).writes }
+    ensures ok { OnOk result (AreWritten (S.observed store.old).files (S.observed store.new).files (log_files prefix.now group (log.now ∷ [])) []) }
+    ensures stopped { IfErr result (λ why. IsStopped (S.observed store.old) (S.observed store.new) (log_files prefix.now group (log.now ∷ [])) why) }
+    ensures reads { (S.observed store.new).reads ≡ (S.observed store.old).reads }
+    ensures later { (S.observed store.old).writes ≤ (S.observed store.new).writes }
 {
     let name = log_name(alloc, prefix, group)?;
     let text = write_log2(alloc, log)?;
@@ -56,10 +56,10 @@ pub fn write_file<S: Store>(
     bytes: &[u8],
     store: &mut S,
 ) -> Result<(), Unwritten>
-    ensures ok { OnOk result (AreWritten (S.told store.old).files (S.told store.new).files ((record { name = name.now; bytes = bytes.now }) ∷ []) []) }
-    ensures stopped { IfErr result (λ why. IsStopped (S.told store.old) (S.told store.new) ((record { name = name.now; bytes = bytes.now }) ∷ []) why) }
-    ensures reads { (S.told store.new).reads ≡ (S.told store.old).reads }
-    ensures later { (S.told store.old).writes ≤ (S.told store.new).writes }
+    ensures ok { OnOk result (AreWritten (S.observed store.old).files (S.observed store.new).files ((record { name = name.now; bytes = bytes.now }) ∷ []) []) }
+    ensures stopped { IfErr result (λ why. IsStopped (S.observed store.old) (S.observed store.new) ((record { name = name.now; bytes = bytes.now }) ∷ []) why) }
+    ensures reads { (S.observed store.new).reads ≡ (S.observed store.old).reads }
+    ensures later { (S.observed store.old).writes ≤ (S.observed store.new).writes }
 {
     match store.write(name, bytes) {
         Ok(()) => Ok(()),

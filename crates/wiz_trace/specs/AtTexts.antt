@@ -26,5 +26,5 @@ snapshot_text snapshot =
     ++ flat_map variable_text snapshot.variables
 
 -- the part of each rank
-abbrev pub at_text : List Snapshot → List ℕ
-at_text snapshots = flat_map snapshot_text snapshots
+abbrev pub snapshots_text : List Snapshot → List ℕ
+snapshots_text snapshots = flat_map snapshot_text snapshots

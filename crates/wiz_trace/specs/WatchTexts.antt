@@ -10,13 +10,13 @@ values_text None = codes "-"
 values_text (Some values) = ints_text values
 
 -- OLD -> NEW
-abbrev pub between_text : Option (List ℤ) → Option (List ℤ) → List ℕ
-between_text old new = values_text old ++ codes " -> " ++ values_text new ++ codes "\n"
+abbrev pub changed_values_text : Option (List ℤ) → Option (List ℤ) → List ℕ
+changed_values_text old new = values_text old ++ codes " -> " ++ values_text new ++ codes "\n"
 
 -- R:K NAME OLD -> NEW
 abbrev pub change_text : ℕ → List ℕ → Change → List ℕ
 change_text rank name change =
-    decimal_text rank ++ codes ":" ++ decimal_text change.number ++ codes " " ++ name ++ codes " " ++ between_text change.old change.new
+    decimal_text rank ++ codes ":" ++ decimal_text change.number ++ codes " " ++ name ++ codes " " ++ changed_values_text change.old change.new
 
 -- changes N
 abbrev pub count_text : ℕ → List ℕ

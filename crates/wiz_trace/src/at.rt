@@ -1,6 +1,6 @@
 //! The text of where the ranks of a replay stand.
 ghost use Rattle.std.specs.Prelude.{◌≡◌, ◌++◌, OnOk, IfOk, flat_map};
-ghost use Rattle.wiz_trace.specs.AtTexts.{ahead_text, at_text, last_text, snapshot_text};
+ghost use Rattle.wiz_trace.specs.AtTexts.{ahead_text, snapshots_text, last_text, snapshot_text};
 
 use crate::trace::push_variables;
 use mpi_call::reply::Reply;
@@ -11,7 +11,7 @@ use wiz_base::{Bytes, push_decimal, push_text};
 
 /// The at text: of each rank what it is about to do, its last reply, and its variables.
 pub fn at_text(alloc: Global, snapshots: &Snapshots) -> Result<Bytes, AllocError>
-    ensures { IfOk result (λ text. text ≡ at_text snapshots.now) }
+    ensures { IfOk result (λ text. text ≡ snapshots_text snapshots.now) }
 {
     let mut out = Bytes::new(alloc);
     push_snapshots(&mut out, snapshots.as_slice())?;
@@ -19,7 +19,7 @@ pub fn at_text(alloc: Global, snapshots: &Snapshots) -> Result<Bytes, AllocError
 }
 
 fn push_snapshots(out: &mut Bytes, snapshots: &[Snapshot]) -> Result<(), AllocError>
-    ensures { OnOk result (out.new ≡ out.old ++ at_text snapshots.now) }
+    ensures { OnOk result (out.new ≡ out.old ++ snapshots_text snapshots.now) }
 {
     let mut rest = snapshots;
     while let [snapshot, after @ ..] = rest {

@@ -1,12 +1,12 @@
 //! The text of the places at which a message is sent, found and taken.
 ghost use Rattle.std.specs.Prelude.{◌≡◌, ◌++◌, OnOk, IfOk, flat_map, map};
 ghost use Rattle.std.specs.List.{list_any};
-ghost use Rattle.replay_views.specs.Places.{place_view};
-ghost use Rattle.wiz_trace.specs.WhereTexts.{answered_text, got_text, outside_text, places_text, sent_text, spot_text, takes, untaken_text, where_text};
+ghost use Rattle.replay_views.specs.Places.{message_place_view};
+ghost use Rattle.wiz_trace.specs.WhereTexts.{answered_text, got_place_text, outside_text, places_text, sent_text, spot_text, is_taking_place, untaken_text, where_text};
 
 use mpi_call::members::is_member;
 use msg_races::names::Name;
-use replay_views::places::Place;
+use replay_views::places::MessagePlace;
 use replay_views::role::Role;
 use run_text::call_text::{push_call, push_reply};
 use std::alloc::{AllocError, Global};
@@ -17,17 +17,22 @@ pub fn where_text(
     alloc: Global,
     name: Name,
     group: &[u8],
-    places: &[Place],
+    places: &[MessagePlace],
 ) -> Result<Bytes, AllocError>
-    ensures { IfOk result (λ text. text ≡ where_text name group.now (map place_view places.now)) }
+    ensures { IfOk result (λ text. text ≡ where_text name group.now (map message_place_view places.now)) }
 {
     let mut out = Bytes::new(alloc);
     push_where(&mut out, name, group, places)?;
     Ok(out)
 }
 
-fn push_where(out: &mut Bytes, name: Name, group: &[u8], places: &[Place]) -> Result<(), AllocError>
-    ensures { OnOk result (out.new ≡ out.old ++ where_text name group.now (map place_view places.now)) }
+fn push_where(
+    out: &mut Bytes,
+    name: Name,
+    group: &[u8],
+    places: &[MessagePlace],
+) -> Result<(), AllocError>
+    ensures { OnOk result (out.new ≡ out.old ++ where_text name group.now (map message_place_view places.now)) }
 {
     match places {
         [] => push_text(out, b"unknown\n"),
@@ -35,8 +40,8 @@ fn push_where(out: &mut Bytes, name: Name, group: &[u8], places: &[Place]) -> Re
     }
 }
 
-fn push_places(out: &mut Bytes, inside: bool, places: &[Place]) -> Result<(), AllocError>
-    ensures { OnOk result (out.new ≡ out.old ++ places_text inside (map place_view places.now)) }
+fn push_places(out: &mut Bytes, inside: bool, places: &[MessagePlace]) -> Result<(), AllocError>
+    ensures { OnOk result (out.new ≡ out.old ++ places_text inside (map message_place_view places.now)) }
 {
     push_all_sent(out, places)?;
     push_outside(out, inside)?;
@@ -44,8 +49,8 @@ fn push_places(out: &mut Bytes, inside: bool, places: &[Place]) -> Result<(), Al
     push_untaken(out, is_taken(places))
 }
 
-fn push_all_sent(out: &mut Bytes, places: &[Place]) -> Result<(), AllocError>
-    ensures { OnOk result (out.new ≡ out.old ++ flat_map sent_text (map place_view places.now)) }
+fn push_all_sent(out: &mut Bytes, places: &[MessagePlace]) -> Result<(), AllocError>
+    ensures { OnOk result (out.new ≡ out.old ++ flat_map sent_text (map message_place_view places.now)) }
 {
     let mut rest = places;
     while let [place, after @ ..] = rest {
@@ -56,8 +61,8 @@ fn push_all_sent(out: &mut Bytes, places: &[Place]) -> Result<(), AllocError>
 }
 
 /// Where the message is sent.
-fn push_sent(out: &mut Bytes, place: &Place) -> Result<(), AllocError>
-    ensures { OnOk result (out.new ≡ out.old ++ sent_text (place_view place.now)) }
+fn push_sent(out: &mut Bytes, place: &MessagePlace) -> Result<(), AllocError>
+    ensures { OnOk result (out.new ≡ out.old ++ sent_text (message_place_view place.now)) }
 {
     match place.role {
         Role::Sent => {
@@ -69,8 +74,8 @@ fn push_sent(out: &mut Bytes, place: &Place) -> Result<(), AllocError>
     }
 }
 
-fn push_all_got(out: &mut Bytes, places: &[Place]) -> Result<(), AllocError>
-    ensures { OnOk result (out.new ≡ out.old ++ flat_map got_text (map place_view places.now)) }
+fn push_all_got(out: &mut Bytes, places: &[MessagePlace]) -> Result<(), AllocError>
+    ensures { OnOk result (out.new ≡ out.old ++ flat_map got_place_text (map message_place_view places.now)) }
 {
     let mut rest = places;
     while let [place, after @ ..] = rest {
@@ -81,8 +86,8 @@ fn push_all_got(out: &mut Bytes, places: &[Place]) -> Result<(), AllocError>
 }
 
 /// Where the message is found, or taken.
-fn push_got(out: &mut Bytes, place: &Place) -> Result<(), AllocError>
-    ensures { OnOk result (out.new ≡ out.old ++ got_text (place_view place.now)) }
+fn push_got(out: &mut Bytes, place: &MessagePlace) -> Result<(), AllocError>
+    ensures { OnOk result (out.new ≡ out.old ++ got_place_text (message_place_view place.now)) }
 {
     match place.role {
         Role::Sent => Ok(()),
@@ -98,8 +103,8 @@ fn push_got(out: &mut Bytes, place: &Place) -> Result<(), AllocError>
 }
 
 /// A call with its number and its reply.
-fn push_answered(out: &mut Bytes, place: &Place) -> Result<(), AllocError>
-    ensures { OnOk result (out.new ≡ out.old ++ answered_text (place_view place.now)) }
+fn push_answered(out: &mut Bytes, place: &MessagePlace) -> Result<(), AllocError>
+    ensures { OnOk result (out.new ≡ out.old ++ answered_text (message_place_view place.now)) }
 {
     push_spot(out, place)?;
     push_text(out, b" -> ")?;
@@ -108,8 +113,8 @@ fn push_answered(out: &mut Bytes, place: &Place) -> Result<(), AllocError>
 }
 
 /// A call with its number.
-fn push_spot(out: &mut Bytes, place: &Place) -> Result<(), AllocError>
-    ensures { OnOk result (out.new ≡ out.old ++ spot_text (place_view place.now)) }
+fn push_spot(out: &mut Bytes, place: &MessagePlace) -> Result<(), AllocError>
+    ensures { OnOk result (out.new ≡ out.old ++ spot_text (message_place_view place.now)) }
 {
     push_decimal(out, place.rank as u64)?;
     push_text(out, b":")?;
@@ -119,8 +124,8 @@ fn push_spot(out: &mut Bytes, place: &Place) -> Result<(), AllocError>
 }
 
 /// Whether some call takes the message.
-fn is_taken(places: &[Place]) -> bool
-    ensures { result ≡ list_any takes (map place_view places.now) }
+fn is_taken(places: &[MessagePlace]) -> bool
+    ensures { result ≡ list_any is_taking_place (map message_place_view places.now) }
 {
     let mut rest = places;
     while let [place, after @ ..] = rest {
@@ -132,8 +137,8 @@ fn is_taken(places: &[Place]) -> bool
     false
 }
 
-fn takes(place: &Place) -> bool
-    ensures { result ≡ takes (place_view place.now) }
+fn takes(place: &MessagePlace) -> bool
+    ensures { result ≡ is_taking_place (message_place_view place.now) }
 {
     match place.role {
         Role::Took => true,

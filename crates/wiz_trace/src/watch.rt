@@ -1,6 +1,6 @@
 //! The text of the changes of a variable.
 ghost use Rattle.std.specs.Prelude.{◌≡◌, ◌++◌, OnOk, IfOk, flat_map};
-ghost use Rattle.wiz_trace.specs.WatchTexts.{between_text, change_text, count_text, values_text, watch_text};
+ghost use Rattle.wiz_trace.specs.WatchTexts.{changed_values_text, change_text, count_text, values_text, watch_text};
 
 use mpi_call::lists::Ints;
 use replay_views::changes::{Change, Changes};
@@ -52,7 +52,7 @@ fn push_change(out: &mut Bytes, rank: u8, name: &[u8], change: &Change) -> Resul
 }
 
 fn push_between(out: &mut Bytes, old: &Option<Ints>, new: &Option<Ints>) -> Result<(), AllocError>
-    ensures { OnOk result (out.new ≡ out.old ++ between_text old.now new.now) }
+    ensures { OnOk result (out.new ≡ out.old ++ changed_values_text old.now new.now) }
 {
     push_values(out, old)?;
     push_text(out, b" -> ")?;

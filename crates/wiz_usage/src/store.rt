@@ -1,5 +1,5 @@
 //! A store that keeps a copy of one file as it was read.
-ghost use Rattle.wiz_io.specs.Files.{FilesTold};
+ghost use Rattle.wiz_io.specs.Files.{ObservedFiles};
 
 use wiz_base::Bytes;
 use wiz_io::{ReadFault, Store, WriteFault};
@@ -36,7 +36,7 @@ impl<'n, S: Store + Drop> WatchedStore<'n, S> {
 }
 
 impl<'n, S: Store + Drop> Store for WatchedStore<'n, S> {
-    ghost told = { λ s. S.told s.store };
+    ghost observed = { λ s. S.observed s.store };
 
     fn read(&mut self, name: &str, limit: u64) -> Result<Bytes, ReadFault> {
         let bytes = self.store.read(name, limit)?;

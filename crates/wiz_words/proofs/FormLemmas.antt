@@ -14,7 +14,7 @@ use Rattle.wiz_words.specs.declared.command.Verb.{Verb}
 use Rattle.wiz_words.specs.declared.command.Verb.TheVariants.{Record, Check, Races, Advise, Demo, Replay, Show, Stats, Convert, Refine, Join, Diff, Waits, Picture, Watch, At, Where, Explore}
 use Rattle.wiz_words.specs.declared.forms.Form.{Form as FormRow}
 use Rattle.wiz_words.specs.declared.forms.FormPart.{FormPart}
-use Rattle.wiz_words.specs.Forms.{IsForm, form_of, name_of, rule_by, verb_named, verbs}
+use Rattle.wiz_words.specs.Forms.{IsForm, form_of, verb_name, rule_by, verb_named, verbs}
 use Rattle.wiz_words.specs.Texts.{texts, with_texts}
 use Rattle.wiz_words.specs.Words.{AskFor, AskForNothing, IsCommandIn, verb_of}
 
@@ -54,7 +54,7 @@ form_is_simple Where = refl
 form_is_simple Explore = refl
 
 -- each command is that of its name
-verb_of_name : (verb : Verb) → verb_named (name_of verb) ≡ Some verb
+verb_of_name : (verb : Verb) → verb_named (verb_name verb) ≡ Some verb
 verb_of_name Record = refl
 verb_of_name Check = refl
 verb_of_name Races = refl
@@ -86,15 +86,15 @@ found_passes test (y ∷ ys) x found = go (test y) refl found (found_passes test
     go true is here later = sym (ap test (some_is y x here)) ∙ is
     go false is here later = later here
 
-name_is : (name : Text) (verb : Verb) → verb_named name ≡ Some verb → name ≡ name_of verb
-name_is name verb found = (bytes_eq-Decides name (name_of verb)).0 (found_passes (λ (v : Verb). bytes_eq name (name_of v)) verbs verb found)
+name_is : (name : Text) (verb : Verb) → verb_named name ≡ Some verb → name ≡ verb_name verb
+name_is name verb found = (bytes_eq-Decides name (verb_name verb)).0 (found_passes (λ (v : Verb). bytes_eq name (verb_name v)) verbs verb found)
 
-one_verb : (a b : Verb) → name_of a ≡ name_of b → a ≡ b
+one_verb : (a b : Verb) → verb_name a ≡ verb_name b → a ≡ b
 one_verb a b same = some_is a b (sym (verb_of_name a) ∙ (ap verb_named same ∙ verb_of_name b))
 
 -- the arguments begin with the name of this command
 abbrev pub BeginWith : List Text → Verb → Type 0
-BeginWith words verb = slice_get words 0 ≡ Some (name_of verb)
+BeginWith words verb = slice_get words 0 ≡ Some (verb_name verb)
 
 first_text : (words : List (Bor Text)) (name : Bor Text) → Some name ≡ slice_get words 0 → slice_get (texts words) 0 ≡ Some name.now
 first_text words name first = slice_get-map (λ (word : Bor Text). word.now) words 0 ∙ ap (option_map (λ (word : Bor Text). word.now)) (sym first)
@@ -110,7 +110,7 @@ verb_is words command verb asks begin = one_verb (verb_of command) verb (some_is
 -- arguments whose first names no command ask for nothing
 pub unnamed : (words : List (Bor Text)) (name : Bor Text) → Some name ≡ slice_get words 0 → None ≡ verb_named name.now → AskForNothing (texts words)
 unnamed words name first none command asks =
-    let same : name.now ≡ name_of (verb_of command) = some_is _ _ (sym (first_text words name first) ∙ asks.begin) in
+    let same : name.now ≡ verb_name (verb_of command) = some_is _ _ (sym (first_text words name first) ∙ asks.begin) in
     let found : None ≡ Some (verb_of command) = none ∙ (ap verb_named same ∙ verb_of_name (verb_of command)) in
     absurd (cc)
 

@@ -8,13 +8,13 @@ use Rattle.wiz_base.specs.Decimals.{decimal_text}
 use Rattle.wiz_words.specs.Limits.{greatest_call, greatest_rank, greatest_start}
 
 -- what was found, a row an argument
-abbrev pub given_by : ArgMatches → List Row
-given_by matches = rows_of (found_of matches)
+abbrev pub rows_found : ArgMatches → List Row
+rows_found matches = rows_of (found_of matches)
 
 -- what clap finds in the arguments; nothing, where the form refuses them
 abbrev pub AreMatchesOf : App → List Text → Option ArgMatches → Type 0
 AreMatchesOf form words None = fault_of form words ≢ []
-AreMatchesOf form words (Some matches) = (fault_of form words ≡ []) × (given_by matches ≡ matches_of form words)
+AreMatchesOf form words (Some matches) = (fault_of form words ≡ []) × (rows_found matches ≡ matches_of form words)
 
 -- the value of an argument, where one is given
 abbrev pub value_in : List Row → Text → Option Text

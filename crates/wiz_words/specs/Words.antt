@@ -8,7 +8,7 @@ use Rattle.wiz_words.specs.declared.command.ReplayWords.{ReplayWords}
 use Rattle.wiz_words.specs.declared.command.RunWords.{RunWords}
 use Rattle.wiz_words.specs.declared.command.Verb.{Verb}
 use Rattle.wiz_words.specs.declared.command.Verb.TheVariants as verb
-use Rattle.wiz_words.specs.Forms.{form_of, name_of}
+use Rattle.wiz_words.specs.Forms.{form_of, verb_name}
 use Rattle.wiz_words.specs.Limits.{fewest_polls, fewest_ranks, fewest_rounds, fewest_states, greatest_rank, greatest_seed, most_polls, most_ranks, most_rounds, most_states, usual_polls, usual_states}
 use Rattle.wiz_words.specs.Texts.{with_texts}
 use Rattle.wiz_words.specs.Values.{IsBreakpoint, IsNameIn, IsNumberIn, IsNumberOr, flag_in, value_in}
@@ -95,7 +95,7 @@ IsCommandIn given name (Some command) = (verb_of (with_texts command) ≡ name) 
 
 -- the arguments ask for a command: the first is its name, clap takes the others by its form, and finds the arguments of this command
 pub record AskFor (words : List Text) (command : Command Text) : Type 0 where
-  pub begin : slice_get words 0 ≡ Some (name_of (verb_of command))
+  pub begin : slice_get words 0 ≡ Some (verb_name (verb_of command))
   pub accepted : fault_of (form_of (verb_of command)) words ≡ []
   pub says : AreWordsOf (matches_of (form_of (verb_of command)) words) command
 

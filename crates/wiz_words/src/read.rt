@@ -6,7 +6,7 @@ ghost use Rattle.wiz_words.specs.declared.command.ReplayWords.{ReplayWords};
 ghost use Rattle.wiz_words.specs.declared.command.RunWords.{RunWords};
 ghost use Rattle.wiz_words.specs.declared.command.Verb.TheVariants as verb;
 ghost use Rattle.wiz_words.specs.Texts.{replay_with_texts, run_with_texts, texts, with_texts};
-ghost use Rattle.wiz_words.specs.Values.{given_by, value_in};
+ghost use Rattle.wiz_words.specs.Values.{rows_found, value_in};
 ghost use Rattle.wiz_words.specs.Words.{AreReplayWords, AreRunWords, AreSearchWords, AskFor, AskForNothing, AskForOneThing, IsCommandIn};
 
 use crate::command::{Command, ReplayWords, RunWords, Verb};
@@ -79,7 +79,7 @@ pub fn words_ask_for_one_thing()
 
 /// The command of this name whose arguments clap found, where their values are in form.
 fn command_from<'a>(verb: Verb, matches: &ArgMatches<'a>) -> Option<Command<&'a str>>
-    ensures { IsCommandIn (given_by matches.now) verb result }
+    ensures { IsCommandIn (rows_found matches.now) verb result }
 {
     match verb {
         Verb::Record => record_from(matches),
@@ -104,7 +104,7 @@ fn command_from<'a>(verb: Verb, matches: &ArgMatches<'a>) -> Option<Command<&'a 
 }
 
 fn record_from<'a>(matches: &ArgMatches<'a>) -> Option<Command<&'a str>>
-    ensures { IsCommandIn (given_by matches.now) verb.Record result }
+    ensures { IsCommandIn (rows_found matches.now) verb.Record result }
 {
     let run = ordered_run(matches)?;
     let prefix = value_in(matches, "PREFIX")?;
@@ -112,7 +112,7 @@ fn record_from<'a>(matches: &ArgMatches<'a>) -> Option<Command<&'a str>>
 }
 
 fn races_from<'a>(matches: &ArgMatches<'a>) -> Option<Command<&'a str>>
-    ensures { IsCommandIn (given_by matches.now) verb.Races result }
+    ensures { IsCommandIn (rows_found matches.now) verb.Races result }
 {
     let run = ordered_run(matches)?;
     let orders = value_in(matches, "orders");
@@ -120,7 +120,7 @@ fn races_from<'a>(matches: &ArgMatches<'a>) -> Option<Command<&'a str>>
 }
 
 fn advise_from<'a>(matches: &ArgMatches<'a>) -> Option<Command<&'a str>>
-    ensures { IsCommandIn (given_by matches.now) verb.Advise result }
+    ensures { IsCommandIn (rows_found matches.now) verb.Advise result }
 {
     let run = ordered_run(matches)?;
     let most = number_in(matches, "K", FEWEST_RANKS, MOST_RANKS)?;
@@ -131,7 +131,7 @@ fn advise_from<'a>(matches: &ArgMatches<'a>) -> Option<Command<&'a str>>
 }
 
 fn demo_from<'a>(matches: &ArgMatches<'a>) -> Option<Command<&'a str>>
-    ensures { IsCommandIn (given_by matches.now) verb.Demo result }
+    ensures { IsCommandIn (rows_found matches.now) verb.Demo result }
 {
     let seed = number_in(matches, "SEED", 0, GREATEST_SEED)?;
     let rounds = number_in(matches, "ROUNDS", FEWEST_ROUNDS, MOST_ROUNDS)?;
@@ -139,7 +139,7 @@ fn demo_from<'a>(matches: &ArgMatches<'a>) -> Option<Command<&'a str>>
 }
 
 fn convert_from<'a>(matches: &ArgMatches<'a>) -> Option<Command<&'a str>>
-    ensures { IsCommandIn (given_by matches.now) verb.Convert result }
+    ensures { IsCommandIn (rows_found matches.now) verb.Convert result }
 {
     let log = value_in(matches, "LOG")?;
     let file = value_in(matches, "FILE")?;
@@ -148,7 +148,7 @@ fn convert_from<'a>(matches: &ArgMatches<'a>) -> Option<Command<&'a str>>
 }
 
 fn refine_from<'a>(matches: &ArgMatches<'a>) -> Option<Command<&'a str>>
-    ensures { IsCommandIn (given_by matches.now) verb.Refine result }
+    ensures { IsCommandIn (rows_found matches.now) verb.Refine result }
 {
     let log = value_in(matches, "LOG")?;
     let plan = value_in(matches, "PLAN")?;
@@ -157,7 +157,7 @@ fn refine_from<'a>(matches: &ArgMatches<'a>) -> Option<Command<&'a str>>
 }
 
 fn join_from<'a>(matches: &ArgMatches<'a>) -> Option<Command<&'a str>>
-    ensures { IsCommandIn (given_by matches.now) verb.Join result }
+    ensures { IsCommandIn (rows_found matches.now) verb.Join result }
 {
     let one = value_in(matches, "LOG")?;
     let other = value_in(matches, "OTHER")?;
@@ -166,7 +166,7 @@ fn join_from<'a>(matches: &ArgMatches<'a>) -> Option<Command<&'a str>>
 }
 
 fn diff_from<'a>(matches: &ArgMatches<'a>) -> Option<Command<&'a str>>
-    ensures { IsCommandIn (given_by matches.now) verb.Diff result }
+    ensures { IsCommandIn (rows_found matches.now) verb.Diff result }
 {
     let one = value_in(matches, "LOG")?;
     let other = value_in(matches, "OTHER")?;
@@ -174,7 +174,7 @@ fn diff_from<'a>(matches: &ArgMatches<'a>) -> Option<Command<&'a str>>
 }
 
 fn picture_from<'a>(matches: &ArgMatches<'a>) -> Option<Command<&'a str>>
-    ensures { IsCommandIn (given_by matches.now) verb.Picture result }
+    ensures { IsCommandIn (rows_found matches.now) verb.Picture result }
 {
     let run = ordered_run(matches)?;
     let file = value_in(matches, "FILE")?;
@@ -187,7 +187,7 @@ fn picture_from<'a>(matches: &ArgMatches<'a>) -> Option<Command<&'a str>>
 }
 
 fn watch_from<'a>(matches: &ArgMatches<'a>) -> Option<Command<&'a str>>
-    ensures { IsCommandIn (given_by matches.now) verb.Watch result }
+    ensures { IsCommandIn (rows_found matches.now) verb.Watch result }
 {
     let replay = replay_words(matches)?;
     let rank = number_in(matches, "RANK", 0, GREATEST_RANK)?;
@@ -200,7 +200,7 @@ fn watch_from<'a>(matches: &ArgMatches<'a>) -> Option<Command<&'a str>>
 }
 
 fn where_from<'a>(matches: &ArgMatches<'a>) -> Option<Command<&'a str>>
-    ensures { IsCommandIn (given_by matches.now) verb.Where result }
+    ensures { IsCommandIn (rows_found matches.now) verb.Where result }
 {
     let replay = replay_words(matches)?;
     let (source, start) = name_in(matches, "MESSAGE")?;
@@ -212,7 +212,7 @@ fn where_from<'a>(matches: &ArgMatches<'a>) -> Option<Command<&'a str>>
 }
 
 fn explore_from<'a>(matches: &ArgMatches<'a>) -> Option<Command<&'a str>>
-    ensures { IsCommandIn (given_by matches.now) verb.Explore result }
+    ensures { IsCommandIn (rows_found matches.now) verb.Explore result }
 {
     let run = search_words(matches)?;
     let prefix = value_in(matches, "PREFIX")?;
@@ -228,7 +228,7 @@ fn explore_from<'a>(matches: &ArgMatches<'a>) -> Option<Command<&'a str>>
 
 /// The arguments of a run that may have an order.
 fn ordered_run<'a>(matches: &ArgMatches<'a>) -> Option<RunWords<&'a str>>
-    ensures { let given = given_by matches.now in let order = value_in given (codes "order")
+    ensures { let given = rows_found matches.now in let order = value_in given (codes "order")
         in MatchOption result ((run : RunWords Text) → AreRunWords given order run → ⊥)
         (λ run. AreRunWords given order (run_with_texts run)) }
 {
@@ -238,8 +238,8 @@ fn ordered_run<'a>(matches: &ArgMatches<'a>) -> Option<RunWords<&'a str>>
 /// The arguments of a run with this file for its order; nothing where an order and `--serial` are given together.
 fn run_words<'a>(matches: &ArgMatches<'a>, order: Option<&'a str>) -> Option<RunWords<&'a str>>
     ensures { let order = option_map (λ text. text.now) order.entry
-        in MatchOption result ((run : RunWords Text) → AreRunWords (given_by matches.now) order run → ⊥)
-        (λ run. AreRunWords (given_by matches.now) order (run_with_texts run)) }
+        in MatchOption result ((run : RunWords Text) → AreRunWords (rows_found matches.now) order run → ⊥)
+        (λ run. AreRunWords (rows_found matches.now) order (run_with_texts run)) }
 {
     let is_serial = flag_in(matches, "serial");
     if is_serial && order.is_some() {
@@ -255,8 +255,8 @@ fn run_words<'a>(matches: &ArgMatches<'a>, order: Option<&'a str>) -> Option<Run
 
 /// The program and the plan of a search, on one thread, and the file of its first turns, where there is one.
 fn search_words<'a>(matches: &ArgMatches<'a>) -> Option<RunWords<&'a str>>
-    ensures { MatchOption result ((run : RunWords Text) → AreSearchWords (given_by matches.now) run → ⊥)
-        (λ run. AreSearchWords (given_by matches.now) (run_with_texts run)) }
+    ensures { MatchOption result ((run : RunWords Text) → AreSearchWords (rows_found matches.now) run → ⊥)
+        (λ run. AreSearchWords (rows_found matches.now) (run_with_texts run)) }
 {
     Some(RunWords {
         program: value_in(matches, "PROGRAM")?,
@@ -268,8 +268,8 @@ fn search_words<'a>(matches: &ArgMatches<'a>) -> Option<RunWords<&'a str>>
 
 /// The arguments of a replay; nothing where its breakpoint is out of form.
 fn replay_words<'a>(matches: &ArgMatches<'a>) -> Option<ReplayWords<&'a str>>
-    ensures { MatchOption result ((replay : ReplayWords Text) → AreReplayWords (given_by matches.now) replay → ⊥)
-        (λ replay. AreReplayWords (given_by matches.now) (replay_with_texts replay)) }
+    ensures { MatchOption result ((replay : ReplayWords Text) → AreReplayWords (rows_found matches.now) replay → ⊥)
+        (λ replay. AreReplayWords (rows_found matches.now) (replay_with_texts replay)) }
 {
     let stop = match value_in(matches, "break") {
         Some(text) => Some(breakpoint(text)?),

@@ -3,7 +3,7 @@ ghost use Rattle.std.specs.Prelude.{◌≡◌, ℕ, IfOk, MatchOption, true};
 ghost use Rattle.std.specs.Option.{option_map};
 ghost use Rattle.clap.specs.Words.{app_of, is_simple_and_free};
 ghost use Rattle.wiz_words.specs.Texts.{texts};
-ghost use Rattle.wiz_words.specs.Values.{AreMatchesOf, IsBreakpointText, IsNameIn, IsNameText, IsNumberIn, IsNumberOr, flag_in, given_by, value_in};
+ghost use Rattle.wiz_words.specs.Values.{AreMatchesOf, IsBreakpointText, IsNameIn, IsNameText, IsNumberIn, IsNumberOr, flag_in, rows_found, value_in};
 
 use clap::error::ErrorKind;
 use clap::{ArgMatches, Command};
@@ -38,14 +38,14 @@ pub fn matches_of<'a>(
 
 /// The value of an argument, where one is given.
 pub fn value_in<'a>(matches: &ArgMatches<'a>, name: &str) -> Option<&'a str>
-    ensures { option_map (λ text. text.now) result ≡ value_in (given_by matches.now) name.now }
+    ensures { option_map (λ text. text.now) result ≡ value_in (rows_found matches.now) name.now }
 {
     matches.get_str(name)
 }
 
 /// Whether a flag is given.
 pub fn flag_in(matches: &ArgMatches<'_>, name: &str) -> bool
-    ensures { result ≡ flag_in (given_by matches.now) name.now }
+    ensures { result ≡ flag_in (rows_found matches.now) name.now }
 {
     match value_in(matches, name) {
         Some(text) => text == "true",
@@ -55,8 +55,8 @@ pub fn flag_in(matches: &ArgMatches<'_>, name: &str) -> bool
 
 /// The number from `least` to `most` that the value of an argument spells.
 pub fn number_in(matches: &ArgMatches<'_>, name: &str, least: u32, most: u32) -> Option<u32>
-    ensures { MatchOption result ((value : ℕ) → IsNumberIn (given_by matches.now) name.now least most value → ⊥)
-        (λ value. IsNumberIn (given_by matches.now) name.now least most value) }
+    ensures { MatchOption result ((value : ℕ) → IsNumberIn (rows_found matches.now) name.now least most value → ⊥)
+        (λ value. IsNumberIn (rows_found matches.now) name.now least most value) }
 {
     let text = value_in(matches, name)?;
     let value = decimal(text.as_bytes(), most as u64)?;
@@ -74,8 +74,8 @@ pub fn number_or(
     most: u32,
     usual: u32,
 ) -> Option<u32>
-    ensures { MatchOption result ((value : ℕ) → IsNumberOr (given_by matches.now) name.now least most usual value → ⊥)
-        (λ value. IsNumberOr (given_by matches.now) name.now least most usual value) }
+    ensures { MatchOption result ((value : ℕ) → IsNumberOr (rows_found matches.now) name.now least most usual value → ⊥)
+        (λ value. IsNumberOr (rows_found matches.now) name.now least most usual value) }
 {
     match value_in(matches, name) {
         Some(_) => number_in(matches, name, least, most),
@@ -96,8 +96,8 @@ pub fn breakpoint(text: &str) -> Option<(u8, u32)>
 
 /// The name of a message that the value of an argument spells.
 pub fn name_in(matches: &ArgMatches<'_>, argument: &str) -> Option<(u8, u32)>
-    ensures { MatchOption result ((name : ℕ × ℕ) → IsNameIn (given_by matches.now) argument.now name → ⊥)
-        (λ name. IsNameIn (given_by matches.now) argument.now name) }
+    ensures { MatchOption result ((name : ℕ × ℕ) → IsNameIn (rows_found matches.now) argument.now name → ⊥)
+        (λ name. IsNameIn (rows_found matches.now) argument.now name) }
 {
     let text = value_in(matches, argument)?;
     message_name(text)

@@ -8,7 +8,7 @@ use Rattle.c_program.specs.declared.constants.TheConstants.{MOST_CELLS}
 use Rattle.c_program.specs.declared.state.Passed.{Passed}
 use Rattle.c_program.specs.declared.state.Passed.TheVariants.{Number, Cells as Lent}
 use Rattle.c_program.specs.Tree as t
-use Rattle.c_program.specs.Tree.{Argument, Reference}
+use Rattle.c_program.specs.Tree.{TypedArgument, Reference}
 use Rattle.c_program.specs.Cells.{Cells}
 use Rattle.c_program.specs.laws.Keeping.{IsPassable}
 use Rattle.c_program.specs.Meaning.{passed, passed_all}
@@ -61,7 +61,7 @@ range_fits (t.from variable index) s cells all is =
     elements_from_fit by_cells.0 cells by_index.0 (cells_of_fits variable s by_cells.0 all by_cells.1) by_cells.2
 
 -- so arguments may be passed on
-pub passed_is_passable : (argument : Argument) (s : State) (one : Passed) → SlotsFit s → passed argument s ≡ Ok one → IsPassable one
+pub passed_is_passable : (argument : TypedArgument) (s : State) (one : Passed) → SlotsFit s → passed argument s ≡ Ok one → IsPassable one
 passed_is_passable (t.by_value e) s one all is =
     let by_value = given_ok (value e s) (λ v. Ok (Number v)) one is in
     let same : Number by_value.0 ≡ one = cc in
@@ -71,7 +71,7 @@ passed_is_passable (t.by_reference reference) s one all is =
     let same : Lent by_range.0 ≡ one = cc in
     subst IsPassable same (range_fits reference s by_range.0 all by_range.1)
 
-pub passed_all_are_passable : (arguments : List Argument) (s : State) (those : List Passed) → SlotsFit s → passed_all arguments s ≡ Ok those → All IsPassable those
+pub passed_all_are_passable : (arguments : List TypedArgument) (s : State) (those : List Passed) → SlotsFit s → passed_all arguments s ≡ Ok those → All IsPassable those
 passed_all_are_passable [] s those all is =
     let same : [] ≡ those = cc in
     subst (All IsPassable) same (All-nil IsPassable)

@@ -10,7 +10,7 @@ use Rattle.srr_entry.specs.declared.log.Log.{Log}
 use Rattle.srr_record.specs.declared.recording.Recording.{Recording}
 use Rattle.srr_replay.specs.Rounds.{IsReplayable}
 use Rattle.wiz_task.specs.declared.ready.Ready.{Ready}
-use Rattle.wiz_task.specs.inside.Recording.{CanRun, IsMade}
+use Rattle.wiz_task.specs.inside.Recording.{CanRun, IsMadeRecording}
 use Rattle.wiz_task.specs.inside.Replaying.{IsReplayBy}
 
 -- what such calls may be made with
@@ -30,7 +30,7 @@ GivesReplay = Bor CProgram → Bor Log → Breakpoint → Result Replayed AllocE
 -- a call that records and one that replays, on threads or on one, by what each takes and what it answers
 pub record IsRunnerBy (is_threaded : Bool) (Takes : TakesReady) (Records : GivesRecording) (TakesALog : TakesLog) (Replays : GivesReplay) : Type 0 where
   pub takes_ready : (ready : Bor Ready) → CanRun ready.now → Takes ready
-  pub records : (ready : Bor Ready) (made : Result Recording AllocError) → Records ready made → IfOk made (IsMade is_threaded ready.now)
+  pub records : (ready : Bor Ready) (made : Result Recording AllocError) → Records ready made → IfOk made (IsMadeRecording is_threaded ready.now)
   pub takes_log : (program : Bor CProgram) (log : Bor Log) (stop : Breakpoint) → IsReplayable log.now → TakesALog program log stop
   pub replays : (program : Bor CProgram) (log : Bor Log) (stop : Breakpoint) (made : Result Replayed AllocError)
       → Replays program log stop made → IfOk made (IsReplayBy (pure_program program.now) log.now stop)

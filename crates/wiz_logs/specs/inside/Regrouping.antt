@@ -9,7 +9,7 @@ use Rattle.srr_regroup.specs.Joining.{CanJoin}
 use Rattle.srr_regroup.specs.Refining.{CanRefine}
 use Rattle.srr_regroup.specs.Regrouping.{IsReplayOfAProgram}
 use Rattle.srr_replay.specs.Rounds.{IsReplayable}
-use Rattle.srr_text.specs.Bounds.{IsInBounds}
+use Rattle.srr_log.specs.Bounds.{IsInBounds}
 use Rattle.wiz_logs.specs.declared.regrouping.subject.Pair.{Pair}
 use Rattle.wiz_logs.specs.declared.regrouping.subject.Refinement.{Refinement}
 use Rattle.wiz_logs.specs.Logs.{AreLogsOf, IsLogOf, IsPlanOf}

@@ -6,7 +6,7 @@ use Rattle.c_types.specs.Checks.{IsProgramOf}
 use Rattle.srr_entry.specs.declared.log.Log.{Log}
 use Rattle.srr_replay.specs.Rounds.{IsReplayable}
 use Rattle.wiz_logs.specs.declared.replaying.subject.Subject.{Subject}
-use Rattle.wiz_logs.specs.Logs.{IsLogOf, program_text}
+use Rattle.wiz_logs.specs.Logs.{IsLogOf, asked_program}
 
 -- the text of the program with which a log is replayed
 abbrev pub used_text : Log → Option Text → Text
@@ -17,5 +17,5 @@ used_text log (Some text) = text
 pub record IsSubjectOf (texts : List Text) (subject : Subject) : Type 0 where
   pub is_log : IsLogOf texts subject.log
   pub replayable : IsReplayable subject.log
-  pub is_text : used_text subject.log subject.text ≡ program_text texts subject.log
+  pub is_text : used_text subject.log subject.text ≡ asked_program texts subject.log
   pub is_program : IsProgramOf (used_text subject.log subject.text) (pure_program subject.program)

@@ -1,16 +1,16 @@
 //! `convert LOG FILE [--text]`: a log is written in another format.
 ghost use Rattle.std.specs.Prelude.{◌≡◌, IfOk};
-ghost use Rattle.srr_text.specs.Bounds.{IsInBounds};
+ghost use Rattle.srr_log.specs.Bounds.{IsInBounds};
 ghost use Rattle.wiz_logs.specs.Logs.{convert_outcome, converted};
-ghost use Rattle.wiz_task.specs.inside.Ends.{Ends};
-ghost use Rattle.wiz_tool.specs.inside.Told.{IsToldBy};
+ghost use Rattle.wiz_task.specs.inside.Ends.{EndsTask};
+ghost use Rattle.wiz_tool.specs.inside.Told.{IsReportedBy};
 ghost use Rattle.wiz_tool.specs.Environment.{around};
 ghost use Rattle.wiz_logs.specs.Logs.{log_task};
 
 use crate::replaying::subject::read_log_file;
 use srr_entry::log::Log;
+use srr_log::write_log::write_log;
 use srr_log2::write_log2::write_log2;
-use srr_text::write_log::write_log;
 use std::alloc::{AllocError, Global};
 use wiz_base::Bytes;
 use wiz_io::{Sink, Store};
@@ -28,7 +28,7 @@ pub fn convert<'a, S: Store, K: Sink>(
     store: &mut S,
     out: &mut K,
 ) -> Result<Report, Failure<'a>>
-    ensures { Ends (log_task name.now (λ log. convert_outcome file.now (converted is_text log))) (around S.told K.told store out) result }
+    ensures { EndsTask (log_task name.now (λ log. convert_outcome file.now (converted is_text log))) (around S.observed K.observed store out) result }
 {
     let log = read_log_file(alloc, name, store)?;
     let bytes = converted(alloc, &log, is_text)?;
@@ -56,8 +56,8 @@ fn write<S: Store, K: Sink>(
     store: &mut S,
     out: &mut K,
 ) -> Result<Report, AllocError>
-    ensures told { IsToldBy (convert_outcome file.now bytes.now) (around S.told K.told store out) result }
-    ensures reads { (S.told store.new).reads ≡ (S.told store.old).reads }
+    ensures told { IsReportedBy (convert_outcome file.now bytes.now) (around S.observed K.observed store out) result }
+    ensures reads { (S.observed store.new).reads ≡ (S.observed store.old).reads }
 {
     let written = write_file(alloc, file, bytes, store);
     let done = text_alone(alloc, Bytes::new(alloc));

@@ -2,8 +2,8 @@
 ghost use Rattle.std.specs.Prelude.{◌≡◌, [], IfOk};
 ghost use Rattle.wiz_logs.specs.Comparisons.{Compares, of_comparison};
 ghost use Rattle.wiz_logs.specs.inside.Comparing.{AreReplayedRuns};
-ghost use Rattle.wiz_task.specs.inside.Ends.{Ends};
-ghost use Rattle.wiz_tool.specs.inside.Told.{outcome_of};
+ghost use Rattle.wiz_task.specs.inside.Ends.{EndsTask};
+ghost use Rattle.wiz_tool.specs.inside.Told.{outcome_written};
 ghost use Rattle.wiz_tool.specs.Environment.{around};
 ghost use Rattle.wiz_logs.specs.Logs.{diff_requirements, logs_task};
 
@@ -14,7 +14,7 @@ use explanation_text::diff::diff_text;
 use replay_model::replayed::Replayed;
 use std::alloc::{AllocError, Global};
 use view_diff::compare::compare;
-use view_diff::compared::Comparison;
+use view_diff::compared::{Comparison, parts};
 use view_diff::laws::parts_by_a_reply;
 use wiz_io::{Sink, Store};
 use wiz_task::runner::Runner;
@@ -33,7 +33,7 @@ pub fn diff<'a, S: Store, K: Sink, R: Runner>(
     runner: &R,
 ) -> Result<Report, Failure<'a>>
     requires runs { R.runs runner.now }
-    ensures { Ends (logs_task one.now other.now diff_requirements Compares) (around S.told K.told store out) result }
+    ensures { EndsTask (logs_task one.now other.now diff_requirements Compares) (around S.observed K.observed store out) result }
 {
     let runs = read_runs(alloc, one, other, store)?;
     let first = replay_own(alloc, &runs.program, &runs.one, runner)?;
@@ -51,7 +51,7 @@ fn compared(
     second: Replayed,
 ) -> Result<Done, AllocError>
     requires { AreReplayedRuns runs.now first second }
-    ensures { IfOk result (λ done. Compares runs.now.one runs.now.other (outcome_of [] done)) }
+    ensures { IfOk result (λ done. Compares runs.now.one runs.now.other (outcome_written [] done)) }
 {
     // Laws: all programs of a text mean the same, and where two replays part one call is answered in two ways, or one is cut short.
     text_fixes_meaning(&runs.program, runs.one.program.as_slice());
@@ -87,7 +87,7 @@ fn compared(
 fn of_comparison(ranks: &Comparison) -> Status
     ensures { result ≡ of_comparison ranks.now }
 {
-    if ranks.parts() {
+    if parts(ranks) {
         Status::Parted
     } else {
         Status::Done

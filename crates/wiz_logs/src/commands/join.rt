@@ -1,10 +1,10 @@
 //! `join LOG OTHER FILE`: two logs are replayed, each alone, and the log of both groups together is written.
 ghost use Rattle.std.specs.Prelude.{◌≡◌, ◌∷◌, []};
-ghost use Rattle.srr_regroup.specs.Regrouping.{both_groups, joined};
+ghost use Rattle.srr_regroup.specs.Regrouping.{both_groups, joined_log};
 ghost use Rattle.wiz_logs.specs.Regroupings.{Joins, done_outcome, join_outcome, log_file};
-ghost use Rattle.wiz_task.specs.inside.Ends.{Ends};
+ghost use Rattle.wiz_task.specs.inside.Ends.{EndsTask};
 ghost use Rattle.wiz_logs.specs.inside.Regrouping.{AreJoinable};
-ghost use Rattle.wiz_tool.specs.inside.Told.{IsToldBy};
+ghost use Rattle.wiz_tool.specs.inside.Told.{IsReportedBy};
 ghost use Rattle.wiz_tool.specs.Environment.{around};
 ghost use Rattle.wiz_trace.specs.RegroupTexts.{joined_text};
 ghost use Rattle.wiz_logs.specs.Logs.{join_requirements, logs_task};
@@ -36,7 +36,7 @@ pub fn join<'a, S: Store, K: Sink, R: Runner>(
     runner: &R,
 ) -> Result<Report, Failure<'a>>
     requires { R.runs runner.now }
-    ensures { Ends (logs_task one.now other.now join_requirements (Joins file.now)) (around S.told K.told store out) result }
+    ensures { EndsTask (logs_task one.now other.now join_requirements (Joins file.now)) (around S.observed K.observed store out) result }
 {
     let pair = read_pair(alloc, one, other, store)?;
     let first = replay_own(alloc, &pair.program, &pair.one, runner)?;
@@ -58,8 +58,8 @@ fn tell_replayed<S: Store, K: Sink>(
     out: &mut K,
 ) -> Result<Report, AllocError>
     requires { AreJoinable pair.now.one first.events.events pair.now.other second.events.events }
-    ensures told { IsToldBy (join_outcome file.now pair.now.one first pair.now.other second) (around S.told K.told store out) result }
-    ensures reads { (S.told store.new).reads ≡ (S.told store.old).reads }
+    ensures told { IsReportedBy (join_outcome file.now pair.now.one first pair.now.other second) (around S.observed K.observed store out) result }
+    ensures reads { (S.observed store.new).reads ≡ (S.observed store.old).reads }
 {
     match of_both(first.ends.as_slice(), second.ends.as_slice()) {
         Status::Done => write_joined(alloc, file, pair, first, second, store, out),
@@ -81,9 +81,9 @@ fn write_joined<S: Store, K: Sink>(
     out: &mut K,
 ) -> Result<Report, AllocError>
     requires { AreJoinable pair.now.one first.events.events pair.now.other second.events.events }
-    ensures told { let files = log_file file.now (joined pair.now.one first.events.events pair.now.other second.events.events) in
-        IsToldBy (done_outcome files (joined_text (both_groups pair.now.one pair.now.other)) (first ∷ second ∷ [])) (around S.told K.told store out) result }
-    ensures reads { (S.told store.new).reads ≡ (S.told store.old).reads }
+    ensures told { let files = log_file file.now (joined_log pair.now.one first.events.events pair.now.other second.events.events) in
+        IsReportedBy (done_outcome files (joined_text (both_groups pair.now.one pair.now.other)) (first ∷ second ∷ [])) (around S.observed K.observed store out) result }
+    ensures reads { (S.observed store.new).reads ≡ (S.observed store.old).reads }
 {
     let made = srr_regroup::join(alloc, &pair.one, &first, &pair.other, &second)?;
     let text = joined_text(alloc, &made.group)?;

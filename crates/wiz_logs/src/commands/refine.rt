@@ -4,9 +4,9 @@ ghost use Rattle.std.specs.List.{slice_index_or};
 ghost use Rattle.srr_regroup.specs.Regrouping.{refined};
 ghost use Rattle.wiz_tool.specs.Files.{AreWritten};
 ghost use Rattle.wiz_logs.specs.Regroupings.{done_outcome, part_file, part_files, refine_outcome};
-ghost use Rattle.wiz_task.specs.inside.Ends.{Ends};
+ghost use Rattle.wiz_task.specs.inside.Ends.{EndsTask};
 ghost use Rattle.wiz_logs.specs.inside.Regrouping.{IsRegroupable};
-ghost use Rattle.wiz_tool.specs.inside.Told.{IsStopped, IsToldBy};
+ghost use Rattle.wiz_tool.specs.inside.Told.{IsStopped, IsReportedBy};
 ghost use Rattle.wiz_tool.specs.Environment.{around};
 ghost use Rattle.wiz_trace.specs.RegroupTexts.{refined_text};
 ghost use Rattle.wiz_logs.specs.Logs.{refine_task};
@@ -39,7 +39,7 @@ pub fn refine<'a, S: Store, K: Sink, R: Runner>(
     runner: &R,
 ) -> Result<Report, Failure<'a>>
     requires { R.runs runner.now }
-    ensures { Ends (refine_task name.now plan.now prefix.now) (around S.told K.told store out) result }
+    ensures { EndsTask (refine_task name.now plan.now prefix.now) (around S.observed K.observed store out) result }
 {
     let refinement = read_refinement(alloc, name, plan, store)?;
     let replayed = replay_own(alloc, &refinement.program, &refinement.log, runner)?;
@@ -60,8 +60,8 @@ fn tell_replayed<S: Store, K: Sink>(
     out: &mut K,
 ) -> Result<Report, AllocError>
     requires { IsRegroupable refinement.now.log replayed.events.events }
-    ensures told { IsToldBy (refine_outcome prefix.now refinement.now.log refinement.now.plan replayed) (around S.told K.told store out) result }
-    ensures reads { (S.told store.new).reads ≡ (S.told store.old).reads }
+    ensures told { IsReportedBy (refine_outcome prefix.now refinement.now.log refinement.now.plan replayed) (around S.observed K.observed store out) result }
+    ensures reads { (S.observed store.new).reads ≡ (S.observed store.old).reads }
 {
     match of_stands(replayed.ends.as_slice()) {
         Status::Done => write_refined(alloc, prefix, refinement, replayed, store, out),
@@ -84,8 +84,8 @@ fn write_refined<S: Store, K: Sink>(
     requires { IsRegroupable refinement.now.log replayed.events.events }
     ensures told { let log = refinement.now.log in let groups = refinement.now.plan in
         let files = part_files prefix.now log.group (refined log replayed.events.events) 0 groups in
-        IsToldBy (done_outcome files (refined_text log.group groups) (replayed ∷ [])) (around S.told K.told store out) result }
-    ensures reads { (S.told store.new).reads ≡ (S.told store.old).reads }
+        IsReportedBy (done_outcome files (refined_text log.group groups) (replayed ∷ [])) (around S.observed K.observed store out) result }
+    ensures reads { (S.observed store.new).reads ≡ (S.observed store.old).reads }
 {
     let text = refined_text(alloc, &refinement.log.group, &refinement.plan)?;
     let written = write_parts(alloc, prefix, 0, refinement, &replayed, store);
@@ -106,11 +106,11 @@ fn write_parts<S: Store>(
     requires replay { IsRegroupable refinement.now.log replayed.now.events.events }
     requires k { k ≤ length refinement.now.plan }
     ensures ok { let log = refinement.now.log in
-        OnOk result (AreWritten (S.told store.old).files (S.told store.new).files (part_files prefix.now log.group (refined log replayed.now.events.events) k (drop k refinement.now.plan)) []) }
+        OnOk result (AreWritten (S.observed store.old).files (S.observed store.new).files (part_files prefix.now log.group (refined log replayed.now.events.events) k (drop k refinement.now.plan)) []) }
     ensures stopped { let log = refinement.now.log in
-        IfErr result (λ why. IsStopped (S.told store.old) (S.told store.new) (part_files prefix.now log.group (refined log replayed.now.events.events) k (drop k refinement.now.plan)) why) }
-    ensures reads { (S.told store.new).reads ≡ (S.told store.old).reads }
-    ensures later { (S.told store.old).writes ≤ (S.told store.new).writes }
+        IfErr result (λ why. IsStopped (S.observed store.old) (S.observed store.new) (part_files prefix.now log.group (refined log replayed.now.events.events) k (drop k refinement.now.plan)) why) }
+    ensures reads { (S.observed store.new).reads ≡ (S.observed store.old).reads }
+    ensures later { (S.observed store.old).writes ≤ (S.observed store.new).writes }
 {
     if k == refinement.plan.groups() {
         return Ok(());
@@ -131,11 +131,11 @@ fn write_part<S: Store>(
     requires replay { IsRegroupable refinement.now.log replayed.now.events.events }
     requires k { k < length refinement.now.plan }
     ensures ok { let log = refinement.now.log in
-        OnOk result (AreWritten (S.told store.old).files (S.told store.new).files (part_file prefix.now log.group (refined log replayed.now.events.events) k (slice_index_or refinement.now.plan k [])) []) }
+        OnOk result (AreWritten (S.observed store.old).files (S.observed store.new).files (part_file prefix.now log.group (refined log replayed.now.events.events) k (slice_index_or refinement.now.plan k [])) []) }
     ensures stopped { let log = refinement.now.log in
-        IfErr result (λ why. IsStopped (S.told store.old) (S.told store.new) (part_file prefix.now log.group (refined log replayed.now.events.events) k (slice_index_or refinement.now.plan k [])) why) }
-    ensures reads { (S.told store.new).reads ≡ (S.told store.old).reads }
-    ensures later { (S.told store.old).writes ≤ (S.told store.new).writes }
+        IfErr result (λ why. IsStopped (S.observed store.old) (S.observed store.new) (part_file prefix.now log.group (refined log replayed.now.events.events) k (slice_index_or refinement.now.plan k [])) why) }
+    ensures reads { (S.observed store.new).reads ≡ (S.observed store.old).reads }
+    ensures later { (S.observed store.old).writes ≤ (S.observed store.new).writes }
 {
     let part = refinement.plan.ranks(k);
     if !are_within(refinement.log.group.as_slice(), part.as_slice()) {

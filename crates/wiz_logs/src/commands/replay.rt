@@ -4,7 +4,7 @@ ghost use Rattle.wiz_logs.specs.Logs.{replay_outcome};
 ghost use Rattle.wiz_tool.specs.Outcomes.{IsPut};
 ghost use Rattle.wiz_tool.specs.Output.{GrewByPart};
 ghost use Rattle.wiz_trace.specs.TraceTexts.{trace_text};
-ghost use Rattle.wiz_task.specs.inside.Ends.{Ends};
+ghost use Rattle.wiz_task.specs.inside.Ends.{EndsTask};
 ghost use Rattle.wiz_tool.specs.Environment.{around};
 ghost use Rattle.wiz_words.specs.Texts.{replay_with_texts};
 ghost use Rattle.wiz_logs.specs.Logs.{TellsReplay, replay_task};
@@ -31,7 +31,7 @@ pub fn replay<'a, S: Store, K: Sink, R: Runner>(
     runner: &R,
 ) -> Result<Report, Failure<'a>>
     requires { R.runs runner.now }
-    ensures { Ends (replay_task (replay_with_texts words.now) TellsReplay) (around S.told K.told store out) result }
+    ensures { EndsTask (replay_task (replay_with_texts words.now) TellsReplay) (around S.observed K.observed store out) result }
 {
     let subject = read_subject(alloc, words, store)?;
     let text = used_text(&subject.log, &subject.text);
@@ -53,8 +53,8 @@ fn tell_replay<K: Sink>(
     replayed: Replayed,
     out: &mut K,
 ) -> Result<Report, AllocError>
-    ensures put { IfOk result (IsPut (replay_outcome replayed) (K.told out.old) (K.told out.new)) }
-    ensures err { OnErr result (GrewByPart (K.told out.old).bytes (K.told out.new).bytes (trace_text replayed)) }
+    ensures put { IfOk result (IsPut (replay_outcome replayed) (K.observed out.old) (K.observed out.new)) }
+    ensures err { OnErr result (GrewByPart (K.observed out.old).bytes (K.observed out.new).bytes (trace_text replayed)) }
 {
     let text = trace_text(alloc, &replayed)?;
     let status = of_stands(replayed.ends.as_slice());

@@ -1,5 +1,5 @@
 //! `stats LOG`: the entries of a log are counted.
-ghost use Rattle.wiz_task.specs.inside.Ends.{Ends};
+ghost use Rattle.wiz_task.specs.inside.Ends.{EndsTask};
 ghost use Rattle.wiz_tool.specs.Environment.{around};
 ghost use Rattle.wiz_logs.specs.Logs.{log_task};
 ghost use Rattle.wiz_tool.specs.Outcomes.{text_outcome};
@@ -19,7 +19,7 @@ pub fn stats<'a, S: Store, K: Sink>(
     store: &mut S,
     out: &mut K,
 ) -> Result<Report, Failure<'a>>
-    ensures { Ends (log_task name.now (λ log. text_outcome (stats_text log))) (around S.told K.told store out) result }
+    ensures { EndsTask (log_task name.now (λ log. text_outcome (stats_text log))) (around S.observed K.observed store out) result }
 {
     let log = read_log_file(alloc, name, store)?;
     let text = stats_text(alloc, &log)?;

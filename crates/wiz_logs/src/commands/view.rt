@@ -5,15 +5,15 @@ ghost use Rattle.c_types.specs.Checks.{IsProgramOf};
 ghost use Rattle.srr_replay.specs.Rounds.{IsReplayable};
 ghost use Rattle.wiz_task.specs.Replayings.{IsReplayOf};
 ghost use Rattle.wiz_logs.specs.Views.{TellsView, view_with_texts};
-ghost use Rattle.wiz_task.specs.inside.Ends.{Ends};
-ghost use Rattle.wiz_tool.specs.inside.Told.{outcome_of};
+ghost use Rattle.wiz_task.specs.inside.Ends.{EndsTask};
+ghost use Rattle.wiz_tool.specs.inside.Told.{outcome_written};
 ghost use Rattle.wiz_tool.specs.Environment.{around};
 ghost use Rattle.wiz_words.specs.Texts.{replay_with_texts};
 ghost use Rattle.wiz_logs.specs.Logs.{view_task};
 
 use crate::replaying::make::one_replay;
 use crate::replaying::subject::{read_subject, used_text};
-use crate::viewing::ask::View;
+use crate::viewing::ask::ReplayView;
 use crate::viewing::tell::told_text;
 use c_program::CProgram;
 use c_types::text_fixes_meaning;
@@ -34,13 +34,13 @@ use wiz_words::command::ReplayWords;
 pub fn view<'a, S: Store, K: Sink, R: Runner>(
     alloc: Global,
     words: &ReplayWords<&'a str>,
-    asked: &View<&'a str>,
+    asked: &ReplayView<&'a str>,
     store: &mut S,
     out: &mut K,
     runner: &R,
 ) -> Result<Report, Failure<'a>>
     requires { R.runs runner.now }
-    ensures { Ends (view_task (replay_with_texts words.now) (view_with_texts asked.now)) (around S.told K.told store out) result }
+    ensures { EndsTask (view_task (replay_with_texts words.now) (view_with_texts asked.now)) (around S.observed K.observed store out) result }
 {
     let subject = read_subject(alloc, words, store)?;
     let text = used_text(&subject.log, &subject.text);
@@ -72,13 +72,13 @@ fn viewed(
     text: &[u8],
     log: &Log,
     stop: Option<(u8, u32)>,
-    asked: &View<&str>,
+    asked: &ReplayView<&str>,
     replayed: Replayed,
 ) -> Result<Done, AllocError>
     requires program { IsProgramOf text.now (pure_program program.now) }
     requires log { IsReplayable log.now }
     requires replay { IsReplayOf text.now log.now stop replayed }
-    ensures { IfOk result (λ done. TellsView text.now log.now stop (view_with_texts asked.now) (outcome_of [] done)) }
+    ensures { IfOk result (λ done. TellsView text.now log.now stop (view_with_texts asked.now) (outcome_written [] done)) }
 {
     // Laws: all programs of a text mean the same, and what is before an earlier place is a part of what is before a later one, also beside a
     // run with the log.

@@ -3,7 +3,7 @@ ghost use Rattle.std.specs.Prelude.{◌≡◌, ◌∷◌, [], IfOk, None};
 ghost use Rattle.std.specs.List.{AllByRecursion};
 ghost use Rattle.c_program.specs.View.{pure_program};
 ghost use Rattle.c_types.specs.Checks.{IsProgramOf};
-ghost use Rattle.group_plan.specs.Plans.{IsGroup};
+ghost use Rattle.group_plan.specs.Plans.{IsRisingGroup};
 ghost use Rattle.srr_replay.specs.Rounds.{IsReplayable};
 ghost use Rattle.wiz_task.specs.Replayings.{IsReplayOf};
 
@@ -42,7 +42,7 @@ pub fn two_replays(alloc: Global, first: Replayed, second: Replayed) -> Result<R
 
 /// Each group of a plan has ranks, rising: a fact of its type, which no empty body can show.
 pub fn groups_rise(plan: &Plan)
-    ensures { AllByRecursion IsGroup plan.now }
+    ensures { AllByRecursion IsRisingGroup plan.now }
 {
     plan.n();
 }

@@ -1,6 +1,6 @@
 //! What is refined, and what is joined.
 ghost use Rattle.std.specs.Prelude.{◌≡◌, ◌≤◌, ◌∷◌, [], List, ℕ, IfErr, IfOk, length};
-ghost use Rattle.log_bounds.specs.RunBounds.{log_limit};
+ghost use Rattle.srr_log.specs.declared.limits.TheConstants.{MOST_LOG_BYTES};
 ghost use Rattle.wiz_task.specs.Tasks.{IsRefusedBy};
 ghost use Rattle.wiz_logs.specs.Logs.{join_inputs, join_requirements, refine_inputs, refine_requirements};
 ghost use Rattle.wiz_tool.specs.Inputs.{AreHeld};
@@ -11,11 +11,12 @@ ghost use Rattle.wiz_tool.specs.inside.Told.{IsFailureBy};
 use c_program::CProgram;
 use group_plan::Plan;
 use srr_entry::log::Log;
+use srr_log::limits::MOST_LOG_BYTES;
 use std::alloc::Global;
 use wiz_io::Store;
 use wiz_task::accept::{check_join, check_refinement, log_in, plan_in, program_in};
 use wiz_tool::failure::Failure;
-use wiz_tool::inputs::{LOG_LIMIT, TEXT_LIMIT, read_input};
+use wiz_tool::inputs::{TEXT_LIMIT, read_input};
 
 /// What is refined: a log by a plan, and the log's program.
 #[derive(Drop)]
@@ -40,12 +41,12 @@ pub fn read_refinement<'a, S: Store>(
     plan: &'a str,
     store: &mut S,
 ) -> Result<Refinement, Failure<'a>>
-    ensures refinement { IfOk result (λ refinement. (texts : List (List ℕ)) × AreHeld (S.told store.old).files (refine_inputs log.now plan.now) texts × IsRefinementOf texts refinement) }
-    ensures refused { IfErr result (IsFailureBy (IsRefusedBy (S.told store.old) (S.told store.new) (refine_inputs log.now plan.now) refine_requirements)) }
-    ensures files { (S.told store.new).files ≡ (S.told store.old).files }
-    ensures writes { (S.told store.new).writes ≡ (S.told store.old).writes }
+    ensures refinement { IfOk result (λ refinement. (texts : List (List ℕ)) × AreHeld (S.observed store.old).files (refine_inputs log.now plan.now) texts × IsRefinementOf texts refinement) }
+    ensures refused { IfErr result (IsFailureBy (IsRefusedBy (S.observed store.old) (S.observed store.new) (refine_inputs log.now plan.now) refine_requirements)) }
+    ensures files { (S.observed store.new).files ≡ (S.observed store.old).files }
+    ensures writes { (S.observed store.new).writes ≡ (S.observed store.old).writes }
 {
-    let bytes = read_input(log, LOG_LIMIT, store)?;
+    let bytes = read_input(log, MOST_LOG_BYTES, store)?;
     let text = read_input(plan, TEXT_LIMIT, store)?;
     let refinement = accept_refinement(alloc, bytes.as_slice(), text.as_slice())?;
     Ok(refinement)
@@ -57,7 +58,7 @@ fn accept_refinement(
     bytes: &[u8],
     text: &[u8],
 ) -> Result<Refinement, Failure<'static>>
-    requires { length bytes.now ≤ log_limit }
+    requires { length bytes.now ≤ MOST_LOG_BYTES }
     ensures refinement { IfOk result (IsRefinementOf (bytes.now ∷ text.now ∷ [])) }
     ensures refused { IfErr result (IsFailureBy (IsUnmetIn (refine_requirements (bytes.now ∷ text.now ∷ [])))) }
 {
@@ -75,21 +76,21 @@ pub fn read_pair<'a, S: Store>(
     other: &'a str,
     store: &mut S,
 ) -> Result<Pair, Failure<'a>>
-    ensures pair { IfOk result (λ pair. (texts : List (List ℕ)) × AreHeld (S.told store.old).files (join_inputs one.now other.now) texts × ArePairOf texts pair) }
-    ensures refused { IfErr result (IsFailureBy (IsRefusedBy (S.told store.old) (S.told store.new) (join_inputs one.now other.now) join_requirements)) }
-    ensures files { (S.told store.new).files ≡ (S.told store.old).files }
-    ensures writes { (S.told store.new).writes ≡ (S.told store.old).writes }
+    ensures pair { IfOk result (λ pair. (texts : List (List ℕ)) × AreHeld (S.observed store.old).files (join_inputs one.now other.now) texts × ArePairOf texts pair) }
+    ensures refused { IfErr result (IsFailureBy (IsRefusedBy (S.observed store.old) (S.observed store.new) (join_inputs one.now other.now) join_requirements)) }
+    ensures files { (S.observed store.new).files ≡ (S.observed store.old).files }
+    ensures writes { (S.observed store.new).writes ≡ (S.observed store.old).writes }
 {
-    let bytes = read_input(one, LOG_LIMIT, store)?;
-    let others = read_input(other, LOG_LIMIT, store)?;
+    let bytes = read_input(one, MOST_LOG_BYTES, store)?;
+    let others = read_input(other, MOST_LOG_BYTES, store)?;
     let pair = accept_pair(alloc, bytes.as_slice(), others.as_slice())?;
     Ok(pair)
 }
 
 /// The logs of these bytes, where they can be joined.
 fn accept_pair(alloc: Global, bytes: &[u8], others: &[u8]) -> Result<Pair, Failure<'static>>
-    requires bytes { length bytes.now ≤ log_limit }
-    requires others { length others.now ≤ log_limit }
+    requires bytes { length bytes.now ≤ MOST_LOG_BYTES }
+    requires others { length others.now ≤ MOST_LOG_BYTES }
     ensures pair { IfOk result (ArePairOf (bytes.now ∷ others.now ∷ [])) }
     ensures refused { IfErr result (IsFailureBy (IsUnmetIn (join_requirements (bytes.now ∷ others.now ∷ [])))) }
 {

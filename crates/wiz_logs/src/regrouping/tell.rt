@@ -19,8 +19,8 @@ pub fn tell_traces<K: Sink>(
     replays: Replays,
     out: &mut K,
 ) -> Result<Report, AllocError>
-    ensures put { IfOk result (IsPut (traces_outcome status replays) (K.told out.old) (K.told out.new)) }
-    ensures err { OnErr result (GrewByPart (K.told out.old).bytes (K.told out.new).bytes (traces_text replays)) }
+    ensures put { IfOk result (IsPut (traces_outcome status replays) (K.observed out.old) (K.observed out.new)) }
+    ensures err { OnErr result (GrewByPart (K.observed out.old).bytes (K.observed out.new).bytes (traces_text replays)) }
 {
     let text = traces_text(alloc, &replays)?;
     tell(text_of_replays(text, status, replays), out)

@@ -6,10 +6,10 @@ ghost use Rattle.replay_views.specs.Snapshots.{snapshots_of};
 ghost use Rattle.run_model.specs.Lists.{are_below};
 ghost use Rattle.run_model.specs.Program.{IsViewOf};
 ghost use Rattle.srr_replay.specs.Rounds.{IsReplayable};
-ghost use Rattle.wiz_logs.specs.Views.{changes_in, told_text, view_with_texts};
+ghost use Rattle.wiz_logs.specs.Views.{changes_in, reported_text, view_with_texts};
 ghost use Rattle.wiz_logs.specs.inside.Viewing.{HaveCome};
 
-use crate::viewing::ask::View;
+use crate::viewing::ask::ReplayView;
 use c_program::CProgram;
 use mpi_call::members::is_member;
 use replay_model::replayed::{Replayed, Stand};
@@ -22,7 +22,7 @@ use run_model::event::Event;
 use srr_entry::log::Log;
 use std::alloc::{AllocError, Global};
 use wiz_base::Bytes;
-use wiz_task::ranks::Rank;
+use wiz_task::ranks::RunningRank;
 use wiz_trace::at::at_text;
 use wiz_trace::places::where_text;
 use wiz_trace::watch::watch_text;
@@ -32,27 +32,27 @@ pub fn told_text(
     alloc: Global,
     program: &CProgram,
     log: &Log,
-    view: &View<&str>,
+    view: &ReplayView<&str>,
     replayed: &Replayed,
 ) -> Result<Bytes, AllocError>
     requires log { IsReplayable log.now }
     requires came { HaveCome (next_of (pure_program program.now)) log.now.ranks replayed.now.events.events }
-    ensures { IfOk result (λ text. text ≡ told_text (pure_program program.now) log.now (view_with_texts view.now) replayed.now.events.events replayed.now.ends) }
+    ensures { IfOk result (λ text. text ≡ reported_text (pure_program program.now) log.now (view_with_texts view.now) replayed.now.events.events replayed.now.ends) }
 {
     let by_rank = ByRank::new(alloc, &replayed.events)?;
     let group = log.group.as_slice();
     match view {
-        View::Changes { rank, name } => {
+        ReplayView::Changes { rank, name } => {
             let own = by_rank.get(*rank);
             let changes = changes_in(alloc, program, log, *rank, name.as_bytes(), own)?;
             watch_text(alloc, *rank, name.as_bytes(), &changes)
         }
-        View::Snapshots => {
+        ReplayView::Snapshots => {
             let ends = replayed.ends.as_slice();
             let snapshots = snapshots(alloc, program, log, &by_rank, ends)?;
             at_text(alloc, &snapshots)
         }
-        View::Places(name) => {
+        ReplayView::Places(name) => {
             let places = places_of(alloc, *name, &by_rank, group)?;
             where_text(alloc, *name, group, &places)
         }
@@ -75,7 +75,7 @@ fn changes_in(
     if !is_member(log.group.as_slice(), rank) {
         return Ok(Changes::new(alloc));
     }
-    let mut run = Rank::start(alloc, program, log.ranks, rank)?;
+    let mut run = RunningRank::start(alloc, program, log.ranks, rank)?;
     changes_of(alloc, &mut run, own, name)
 }
 
@@ -125,7 +125,7 @@ fn add_snapshots(
         [rank, group @ ..] => match ends {
             [] => Ok(()),
             [stand, ends @ ..] => {
-                let mut run = Rank::start(alloc, program, n, *rank)?;
+                let mut run = RunningRank::start(alloc, program, n, *rank)?;
                 let own = by_rank.get(*rank);
                 snapshots.push(snapshot_of(alloc, &mut run, *rank, own, stand)?)?;
                 add_snapshots(alloc, program, n, by_rank, group, ends, snapshots)

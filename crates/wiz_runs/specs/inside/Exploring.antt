@@ -3,11 +3,11 @@ use Rattle.std.specs.Prelude.{◌<◌, ℕ, List, All}
 use Rattle.std.specs.List.{AllZip}
 use Rattle.c_program.specs.View.{pure_program}
 use Rattle.c_program.specs.Program.{next_of, output_of}
-use Rattle.explore.specs.declared.found.Found.{Found}
+use Rattle.explore.specs.declared.found.FoundOutcome.{FoundOutcome}
 use Rattle.explore.specs.Explored.{IsExplored}
 use Rattle.group_plan.specs.Plans.{number_of_ranks}
 use Rattle.picked_runs.specs.declared.turn.Turn.{Turn}
-use Rattle.picked_runs.specs.Turns.{IsTaken}
+use Rattle.picked_runs.specs.Turns.{IsRunByTurns}
 use Rattle.run_model.specs.declared.event.Event.{Event}
 use Rattle.wiz_runs.specs.declared.exploring.make.Searched.{Searched}
 use Rattle.wiz_task.specs.declared.ready.Ready.{Ready}
@@ -19,7 +19,7 @@ pub record IsSearchOf (ready : Ready) (polls : ℕ) (searched : Searched) : Type
   pub are_waiting : AllZip (IsWaiting (next_of (pure_program ready.program)) (number_of_ranks ready.plan)) searched.explored.found searched.waits
 
 -- one of its outcomes: that of the run which the recording by its turns makes
-pub record IsFoundOf (ready : Ready) (found : Found) : Type 0 where
+pub record IsFoundOf (ready : Ready) (found : FoundOutcome) : Type 0 where
   pub run : List Event
-  pub taken : IsTaken (next_of (pure_program ready.program)) (number_of_ranks ready.plan) found.turns run
+  pub taken : IsRunByTurns (next_of (pure_program ready.program)) (number_of_ranks ready.plan) found.turns run
   pub ranks : All (λ (turn : Turn). turn.rank < number_of_ranks ready.plan) found.turns

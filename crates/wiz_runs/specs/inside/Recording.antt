@@ -6,7 +6,7 @@ use Rattle.c_types.specs.Checks.{IsProgramOf}
 use Rattle.srr_entry.specs.declared.log.Log.{Log}
 use Rattle.wiz_runs.specs.declared.commands.check.CheckedRun.{CheckedRun}
 use Rattle.wiz_task.specs.declared.ready.Ready.{Ready}
-use Rattle.wiz_task.specs.inside.Recording.{IsMade}
+use Rattle.wiz_task.specs.inside.Recording.{IsMadeRecording}
 use Rattle.wiz_task.specs.Recordings.{IsReadable}
 use Rattle.wiz_task.specs.Replayings.{AreChecksOf}
 
@@ -17,5 +17,5 @@ pub record IsKeptLog (program : Program) (log : Log) : Type 0 where
 
 -- beside it the replay of each group's log
 pub record IsCheckedRun (is_threaded : Bool) (ready : Ready) (checked : CheckedRun) : Type 0 where
-  pub made : IsMade is_threaded ready checked.recording
+  pub made : IsMadeRecording is_threaded ready checked.recording
   pub checks : AreChecksOf (pure_program ready.program) checked.recording.history.events checked.recording.logs checked.replays

@@ -2,9 +2,9 @@
 ghost use Rattle.c_program.specs.View.{pure_program};
 ghost use Rattle.std.specs.Prelude.{◌≡◌, ◌<◌, [], IfOk, true};
 ghost use Rattle.wiz_runs.specs.Runs.{TellsAdvice};
-ghost use Rattle.wiz_task.specs.inside.Ends.{Ends};
-ghost use Rattle.wiz_task.specs.inside.Recording.{IsMade};
-ghost use Rattle.wiz_tool.specs.inside.Told.{outcome_of};
+ghost use Rattle.wiz_task.specs.inside.Ends.{EndsTask};
+ghost use Rattle.wiz_task.specs.inside.Recording.{IsMadeRecording};
+ghost use Rattle.wiz_tool.specs.inside.Told.{outcome_written};
 ghost use Rattle.wiz_tool.specs.Environment.{around};
 ghost use Rattle.wiz_words.specs.Texts.{run_with_texts};
 ghost use Rattle.wiz_words.specs.Words.{is_threaded_run};
@@ -35,7 +35,7 @@ pub fn advise<'a, S: Store, K: Sink, R: Runner>(
     requires some { 0 < most }
     requires threads { R.is_threaded ≡ is_threaded_run (run_with_texts run.now) }
     requires runs { R.runs runner.now }
-    ensures { Ends (run_task (run_with_texts run.now) (TellsAdvice most)) (around S.told K.told store out) result }
+    ensures { EndsTask (run_task (run_with_texts run.now) (TellsAdvice most)) (around S.observed K.observed store out) result }
 {
     let ready = read_run(alloc, run, store)?;
     let recording = runner.record(alloc, &ready)?;
@@ -52,8 +52,8 @@ fn advise_on(
     recording: Recording,
 ) -> Result<Done, AllocError>
     requires some { 0 < most }
-    requires made { IsMade true ready.now recording }
-    ensures { IfOk result (λ done. TellsAdvice most (pure_program ready.now.program) ready.now.plan recording (outcome_of [] done)) }
+    requires made { IsMadeRecording true ready.now recording }
+    ensures { IfOk result (λ done. TellsAdvice most (pure_program ready.now.program) ready.now.plan recording (outcome_written [] done)) }
 {
     // Laws: a run has one advice, and no cutting costs less, so that what is told of this run is determined and the least.
     one_advice();

@@ -5,10 +5,10 @@ ghost use Rattle.std.specs.List.{AllByRecursion, AllZip};
 ghost use Rattle.srr_entry.specs.declared.log.Log.{Log};
 ghost use Rattle.wiz_runs.specs.Runs.{check_outcome};
 ghost use Rattle.wiz_task.specs.Replayings.{IsReplayOf};
-ghost use Rattle.wiz_task.specs.inside.Ends.{Ends};
+ghost use Rattle.wiz_task.specs.inside.Ends.{EndsTask};
 ghost use Rattle.wiz_task.specs.inside.Recording.{CanRun};
 ghost use Rattle.wiz_runs.specs.inside.Recording.{IsCheckedRun, IsKeptLog};
-ghost use Rattle.wiz_tool.specs.inside.Told.{outcome_of};
+ghost use Rattle.wiz_tool.specs.inside.Told.{outcome_written};
 ghost use Rattle.wiz_tool.specs.Environment.{around};
 ghost use Rattle.wiz_words.specs.Texts.{run_with_texts};
 ghost use Rattle.wiz_words.specs.Words.{is_threaded_run};
@@ -43,7 +43,7 @@ pub fn check<'a, S: Store, K: Sink, R: Runner>(
 ) -> Result<Report, Failure<'a>>
     requires threads { R.is_threaded ≡ is_threaded_run (run_with_texts run.now) }
     requires runs { R.runs runner.now }
-    ensures { Ends (run_task (run_with_texts run.now) (TellsCheck checked)) (around S.told K.told store out) result }
+    ensures { EndsTask (run_task (run_with_texts run.now) (TellsCheck checked)) (around S.observed K.observed store out) result }
 {
     let ready = read_run(alloc, run, store)?;
     let checked = run_and_replay(alloc, &ready, runner)?;
@@ -67,7 +67,7 @@ pub struct CheckedRun {
 impl CheckedRun {
     /// What is told of it, by a text.
     pub fn told_by(self, text: Bytes) -> Done
-        ensures { outcome_of [] result ≡ check_outcome text self.recording self.replays }
+        ensures { outcome_written [] result ≡ check_outcome text self.recording self.replays }
     {
         let CheckedRun { recording, replays } = self;
         let status = of_ending(&recording.ending);

@@ -1,6 +1,6 @@
 //! `demo SEED ROUNDS`: a program of sixteen ranks is checked on one thread.
 ghost use Rattle.std.specs.Prelude.{◌≡◌, false};
-ghost use Rattle.wiz_task.specs.inside.Ends.{Ends};
+ghost use Rattle.wiz_task.specs.inside.Ends.{EndsTask};
 ghost use Rattle.wiz_tool.specs.Environment.{around};
 ghost use Rattle.wiz_runs.specs.Runs.{demo_task};
 
@@ -27,7 +27,7 @@ pub fn demo<'a, S: Store, K: Sink, R: Runner>(
 ) -> Result<Report, Failure<'a>>
     requires threads { R.is_threaded ≡ false }
     requires runs { R.runs runner.now }
-    ensures { Ends (demo_task seed rounds) (around S.told K.told store out) result }
+    ensures { EndsTask (demo_task seed rounds) (around S.observed K.observed store out) result }
 {
     let text = demo_program(alloc, seed, rounds)?;
     let ready = accept_run(alloc, text, PLAN, &None)?;

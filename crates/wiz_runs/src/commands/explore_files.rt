@@ -6,7 +6,7 @@ ghost use Rattle.wiz_tool.specs.inside.Told.{IsStopped};
 ghost use Rattle.wiz_runs.specs.Explorations.{found_turns, left_prefix, numbered_file, numbered_files, numbered_name, search_files};
 
 use explanation_text::order::turns_text;
-use explore::found::{Explored, Found};
+use explore::found::{Explored, FoundOutcome};
 use picked_runs::turn::{Turn, Turns};
 use std::alloc::{AllocError, Global};
 use wiz_io::Store;
@@ -19,9 +19,9 @@ pub fn write_orders<S: Store>(
     explored: &Explored,
     store: &mut S,
 ) -> Result<(), Unwritten>
-    ensures ok { OnOk result (AreWritten (S.told store.old).files (S.told store.new).files (search_files prefix.now explored.now) []) }
-    ensures stopped { IfErr result (λ why. IsStopped (S.told store.old) (S.told store.new) (search_files prefix.now explored.now) why) }
-    ensures reads { (S.told store.new).reads ≡ (S.told store.old).reads }
+    ensures ok { OnOk result (AreWritten (S.observed store.old).files (S.observed store.new).files (search_files prefix.now explored.now) []) }
+    ensures stopped { IfErr result (λ why. IsStopped (S.observed store.old) (S.observed store.new) (search_files prefix.now explored.now) why) }
+    ensures reads { (S.observed store.new).reads ≡ (S.observed store.old).reads }
 {
     write_found(alloc, prefix, explored.found.as_slice(), store)?;
     let left = left_prefix(alloc, prefix)?;
@@ -32,13 +32,13 @@ pub fn write_orders<S: Store>(
 fn write_found<S: Store>(
     alloc: Global,
     prefix: &str,
-    listed: &[Found],
+    listed: &[FoundOutcome],
     store: &mut S,
 ) -> Result<(), Unwritten>
-    ensures ok { OnOk result (AreWritten (S.told store.old).files (S.told store.new).files (numbered_files prefix.now 0 (found_turns listed.now)) []) }
-    ensures stopped { IfErr result (λ why. IsStopped (S.told store.old) (S.told store.new) (numbered_files prefix.now 0 (found_turns listed.now)) why) }
-    ensures reads { (S.told store.new).reads ≡ (S.told store.old).reads }
-    ensures later { (S.told store.old).writes ≤ (S.told store.new).writes }
+    ensures ok { OnOk result (AreWritten (S.observed store.old).files (S.observed store.new).files (numbered_files prefix.now 0 (found_turns listed.now)) []) }
+    ensures stopped { IfErr result (λ why. IsStopped (S.observed store.old) (S.observed store.new) (numbered_files prefix.now 0 (found_turns listed.now)) why) }
+    ensures reads { (S.observed store.new).reads ≡ (S.observed store.old).reads }
+    ensures later { (S.observed store.old).writes ≤ (S.observed store.new).writes }
 {
     for number in 0..listed.len() {
         let turns = &listed[number].turns;
@@ -54,10 +54,10 @@ fn write_left<S: Store>(
     left: &[Turns],
     store: &mut S,
 ) -> Result<(), Unwritten>
-    ensures ok { OnOk result (AreWritten (S.told store.old).files (S.told store.new).files (numbered_files prefix.now 0 left.now) []) }
-    ensures stopped { IfErr result (λ why. IsStopped (S.told store.old) (S.told store.new) (numbered_files prefix.now 0 left.now) why) }
-    ensures reads { (S.told store.new).reads ≡ (S.told store.old).reads }
-    ensures later { (S.told store.old).writes ≤ (S.told store.new).writes }
+    ensures ok { OnOk result (AreWritten (S.observed store.old).files (S.observed store.new).files (numbered_files prefix.now 0 left.now) []) }
+    ensures stopped { IfErr result (λ why. IsStopped (S.observed store.old) (S.observed store.new) (numbered_files prefix.now 0 left.now) why) }
+    ensures reads { (S.observed store.new).reads ≡ (S.observed store.old).reads }
+    ensures later { (S.observed store.old).writes ≤ (S.observed store.new).writes }
 {
     for number in 0..left.len() {
         write_turns(alloc, prefix, number as u64, left[number].as_slice(), store)?;
@@ -73,10 +73,10 @@ fn write_turns<S: Store>(
     turns: &[Turn],
     store: &mut S,
 ) -> Result<(), Unwritten>
-    ensures ok { OnOk result (AreWritten (S.told store.old).files (S.told store.new).files (numbered_file prefix.now number turns.now ∷ []) []) }
-    ensures stopped { IfErr result (λ why. IsStopped (S.told store.old) (S.told store.new) (numbered_file prefix.now number turns.now ∷ []) why) }
-    ensures reads { (S.told store.new).reads ≡ (S.told store.old).reads }
-    ensures later { (S.told store.old).writes ≤ (S.told store.new).writes }
+    ensures ok { OnOk result (AreWritten (S.observed store.old).files (S.observed store.new).files (numbered_file prefix.now number turns.now ∷ []) []) }
+    ensures stopped { IfErr result (λ why. IsStopped (S.observed store.old) (S.observed store.new) (numbered_file prefix.now number turns.now ∷ []) why) }
+    ensures reads { (S.observed store.new).reads ≡ (S.observed store.old).reads }
+    ensures later { (S.observed store.old).writes ≤ (S.observed store.new).writes }
 {
     let name = numbered_name(alloc, prefix, number)?;
     let text = turns_text(alloc, turns)?;

@@ -2,10 +2,10 @@
 //! that makes it again.
 ghost use Rattle.std.specs.Prelude.{◌≡◌};
 ghost use Rattle.std.specs.List.{list_any};
-ghost use Rattle.explore.specs.declared.found.Found.{Found};
-ghost use Rattle.wiz_runs.specs.Explorations.{is_complete, is_halted, of_search, search_outcome};
-ghost use Rattle.wiz_task.specs.inside.Ends.{Ends};
-ghost use Rattle.wiz_tool.specs.inside.Told.{IsToldBy};
+ghost use Rattle.explore.specs.declared.found.FoundOutcome.{FoundOutcome};
+ghost use Rattle.wiz_runs.specs.Explorations.{is_exploration_complete, is_halted, of_search, search_outcome};
+ghost use Rattle.wiz_task.specs.inside.Ends.{EndsTask};
+ghost use Rattle.wiz_tool.specs.inside.Told.{IsReportedBy};
 ghost use Rattle.wiz_tool.specs.Environment.{around};
 ghost use Rattle.wiz_words.specs.Texts.{run_with_texts};
 ghost use Rattle.wiz_runs.specs.Runs.{search_task};
@@ -13,8 +13,8 @@ ghost use Rattle.wiz_runs.specs.Runs.{search_task};
 use crate::commands::explore_files::write_orders;
 use crate::exploring::make::{Searched, search};
 use crate::recording::ready::read_run;
-use explore::course::Bounds;
-use explore::found::{Explored, Found};
+use explore::course::SearchLimits;
+use explore::found::{Explored, FoundOutcome};
 use explore::watch::Watcher;
 use explore_text::text::explore_text;
 use replay_model::replayed::Replays;
@@ -33,12 +33,12 @@ pub fn explore<'a, S: Store, K: Sink, W: Watcher>(
     alloc: Global,
     run: &RunWords<&'a str>,
     prefix: &str,
-    bounds: Bounds,
+    bounds: SearchLimits,
     store: &mut S,
     out: &mut K,
     watcher: &mut W,
 ) -> Result<Report, Failure<'a>>
-    ensures { Ends (search_task (run_with_texts run.now) prefix.now bounds.most bounds.polls) (around S.told K.told store out) result }
+    ensures { EndsTask (search_task (run_with_texts run.now) prefix.now bounds.most bounds.polls) (around S.observed K.observed store out) result }
 {
     let ready = read_run(alloc, run, store)?;
     let searched = search(alloc, &ready, bounds, watcher)?;
@@ -50,13 +50,13 @@ pub fn explore<'a, S: Store, K: Sink, W: Watcher>(
 fn write<S: Store, K: Sink>(
     alloc: Global,
     prefix: &str,
-    bounds: Bounds,
+    bounds: SearchLimits,
     searched: &Searched,
     store: &mut S,
     out: &mut K,
 ) -> Result<Report, AllocError>
-    ensures told { IsToldBy (search_outcome prefix.now bounds.most bounds.polls searched.now.explored searched.now.waits) (around S.told K.told store out) result }
-    ensures reads { (S.told store.new).reads ≡ (S.told store.old).reads }
+    ensures told { IsReportedBy (search_outcome prefix.now bounds.most bounds.polls searched.now.explored searched.now.waits) (around S.observed K.observed store out) result }
+    ensures reads { (S.observed store.new).reads ≡ (S.observed store.old).reads }
 {
     let text = explore_text(alloc, bounds, &searched.explored, searched.waits.as_slice())?;
     let status = of_search(&searched.explored);
@@ -79,15 +79,15 @@ fn of_search(explored: &Explored) -> Status
 }
 
 /// Whether some outcome was halted.
-fn has_halted(listed: &[Found]) -> bool
-    ensures { result ≡ list_any (λ (found : Found). is_halted found.outcome.ending) listed.now }
+fn has_halted(listed: &[FoundOutcome]) -> bool
+    ensures { result ≡ list_any (λ (found : FoundOutcome). is_halted found.outcome.ending) listed.now }
 {
     listed.iter().any(|found| matches!(found.outcome.ending(), Ending::Halted(_)))
 }
 
 /// Whether no state is left and no rank was held back.
 fn is_complete(explored: &Explored) -> bool
-    ensures { result ≡ is_complete explored.now.left explored.now.polled }
+    ensures { result ≡ is_exploration_complete explored.now.left explored.now.polled }
 {
     match explored.left.as_slice() {
         [] => !explored.polled,

@@ -5,11 +5,11 @@ ghost use Rattle.causes.specs.Clocks.{AreOfRanks};
 ghost use Rattle.clap.specs.Words.{Text};
 ghost use Rattle.run_drawing.specs.Drawings.{IsDrawing};
 ghost use Rattle.wiz_runs.specs.Pictures.{IsDrawingOf, IsPictureOf, drawing_text, picture_outcome, picture_over_text};
-ghost use Rattle.wiz_task.specs.inside.Ends.{Ends};
-ghost use Rattle.wiz_task.specs.inside.Recording.{IsMade};
-ghost use Rattle.wiz_io.specs.Files.{FilesTold};
-ghost use Rattle.wiz_tool.specs.Environment.{around, between, environment};
-ghost use Rattle.wiz_tool.specs.inside.Told.{IsToldBy};
+ghost use Rattle.wiz_task.specs.inside.Ends.{EndsTask};
+ghost use Rattle.wiz_task.specs.inside.Recording.{IsMadeRecording};
+ghost use Rattle.wiz_io.specs.Files.{ObservedFiles};
+ghost use Rattle.wiz_tool.specs.Environment.{around, around_of, environment};
+ghost use Rattle.wiz_tool.specs.inside.Told.{IsReportedBy};
 ghost use Rattle.wiz_words.specs.Texts.{run_with_texts};
 ghost use Rattle.wiz_words.specs.Words.{is_threaded_run};
 ghost use Rattle.wiz_runs.specs.Runs.{run_task};
@@ -52,7 +52,7 @@ pub fn picture<'a, S: Store, K: Sink, R: Runner>(
 ) -> Result<Report, Failure<'a>>
     requires threads { R.is_threaded ≡ is_threaded_run (run_with_texts run.now) }
     requires runs { R.runs runner.now }
-    ensures { Ends (run_task (run_with_texts run.now) (TellsPicture file.now is_trace)) (around S.told K.told store out) result }
+    ensures { EndsTask (run_task (run_with_texts run.now) (TellsPicture file.now is_trace)) (around S.observed K.observed store out) result }
 {
     let ready = read_run(alloc, run, store)?;
     let recording = runner.record(alloc, &ready)?;
@@ -68,7 +68,7 @@ fn picture_of(
     is_trace: bool,
     recording: &Recording,
 ) -> Result<Option<Bytes>, AllocError>
-    requires { IsMade true ready.now recording.now }
+    requires { IsMadeRecording true ready.now recording.now }
     ensures { IfOk result (IsPictureOf is_trace (pure_program ready.now.program) ready.now.plan recording.now) }
 {
     if !is_trace && recording.history.len() > MOST_DRAWN {
@@ -82,7 +82,7 @@ fn picture_of(
 
 /// Laws: what holds of the drawing of a recorded run.
 fn all_goes_right(ready: &Ready, recording: &Recording, drawing: &Drawing)
-    requires made { IsMade true ready.now recording.now }
+    requires made { IsMadeRecording true ready.now recording.now }
     requires drawn { IsDrawing ready.now.plan recording.now.history.events drawing.now }
     ensures { IsDrawingOf (pure_program ready.now.program) ready.now.plan recording.now.history.events drawing.now }
 {
@@ -128,8 +128,8 @@ fn write<S: Store, K: Sink>(
     store: &mut S,
     out: &mut K,
 ) -> Result<Report, AllocError>
-    ensures told { IsToldBy (picture_outcome file.now recording picture) (around S.told K.told store out) result }
-    ensures reads { (S.told store.new).reads ≡ (S.told store.old).reads }
+    ensures told { IsReportedBy (picture_outcome file.now recording picture) (around S.observed K.observed store out) result }
+    ensures reads { (S.observed store.new).reads ≡ (S.observed store.old).reads }
 {
     match picture {
         Some(text) => write_picture(alloc, file, text.as_slice(), recording, store, out),
@@ -146,8 +146,8 @@ fn write_picture<S: Store, K: Sink>(
     store: &mut S,
     out: &mut K,
 ) -> Result<Report, AllocError>
-    ensures told { IsToldBy (picture_outcome file.now recording (Some text.now)) (around S.told K.told store out) result }
-    ensures reads { (S.told store.new).reads ≡ (S.told store.old).reads }
+    ensures told { IsReportedBy (picture_outcome file.now recording (Some text.now)) (around S.observed K.observed store out) result }
+    ensures reads { (S.observed store.new).reads ≡ (S.observed store.old).reads }
 {
     let status = of_ending(&recording.ending);
     let written = write_file(alloc, file, text, store);
@@ -161,8 +161,8 @@ fn tell_over<K: Sink>(
     recording: Recording,
     out: &mut K,
 ) -> Result<Report, AllocError>
-    ensures { (file : Text) (store : FilesTold)
-        → IsToldBy (picture_outcome file recording None) (between (environment store (K.told out.old)) (environment store (K.told out.new))) result }
+    ensures { (file : Text) (store : ObservedFiles)
+        → IsReportedBy (picture_outcome file recording None) (around_of (environment store (K.observed out.old)) (environment store (K.observed out.new))) result }
 {
     let text = picture_over(alloc)?;
     let done = text_of_run(alloc, text, Status::TooMany, recording);

@@ -25,9 +25,9 @@ pub fn write_orders<S: Store>(
     store: &mut S,
 ) -> Result<(), Unwritten>
     requires { (picks : List Pick) × ArePicked n [] picks recording.now.history.events }
-    ensures ok { OnOk result (AreWritten (S.told store.old).files (S.told store.new).files (order_files (option_map (λ text. text.now) orders.entry) n recording.now) []) }
-    ensures stopped { IfErr result (λ why. IsStopped (S.told store.old) (S.told store.new) (order_files (option_map (λ text. text.now) orders.entry) n recording.now) why) }
-    ensures reads { (S.told store.new).reads ≡ (S.told store.old).reads }
+    ensures ok { OnOk result (AreWritten (S.observed store.old).files (S.observed store.new).files (order_files (option_map (λ text. text.now) orders.entry) n recording.now) []) }
+    ensures stopped { IfErr result (λ why. IsStopped (S.observed store.old) (S.observed store.new) (order_files (option_map (λ text. text.now) orders.entry) n recording.now) why) }
+    ensures reads { (S.observed store.new).reads ≡ (S.observed store.old).reads }
 {
     let Some(prefix) = orders else {
         return Ok(());
@@ -45,9 +45,9 @@ fn write_each<S: Store>(
     store: &mut S,
 ) -> Result<(), Unwritten>
     requires { AreApart others.now }
-    ensures ok { OnOk result (AreWritten (S.told store.old).files (S.told store.new).files (map (other_file prefix.now recording.now) others.now) []) }
-    ensures stopped { IfErr result (λ why. IsStopped (S.told store.old) (S.told store.new) (map (other_file prefix.now recording.now) others.now) why) }
-    ensures reads { (S.told store.new).reads ≡ (S.told store.old).reads }
+    ensures ok { OnOk result (AreWritten (S.observed store.old).files (S.observed store.new).files (map (other_file prefix.now recording.now) others.now) []) }
+    ensures stopped { IfErr result (λ why. IsStopped (S.observed store.old) (S.observed store.new) (map (other_file prefix.now recording.now) others.now) why) }
+    ensures reads { (S.observed store.new).reads ≡ (S.observed store.old).reads }
 {
     for other in others {
         write_order(alloc, prefix, recording, other, store)?;
@@ -63,10 +63,10 @@ fn write_order<S: Store>(
     other: &OtherPick,
     store: &mut S,
 ) -> Result<(), Unwritten>
-    ensures ok { OnOk result (AreWritten (S.told store.old).files (S.told store.new).files (other_file prefix.now recording.now other.now ∷ []) []) }
-    ensures stopped { IfErr result (λ why. IsStopped (S.told store.old) (S.told store.new) (other_file prefix.now recording.now other.now ∷ []) why) }
-    ensures reads { (S.told store.new).reads ≡ (S.told store.old).reads }
-    ensures later { (S.told store.old).writes ≤ (S.told store.new).writes }
+    ensures ok { OnOk result (AreWritten (S.observed store.old).files (S.observed store.new).files (other_file prefix.now recording.now other.now ∷ []) []) }
+    ensures stopped { IfErr result (λ why. IsStopped (S.observed store.old) (S.observed store.new) (other_file prefix.now recording.now other.now ∷ []) why) }
+    ensures reads { (S.observed store.new).reads ≡ (S.observed store.old).reads }
+    ensures later { (S.observed store.old).writes ≤ (S.observed store.new).writes }
 {
     let name = other_name(alloc, prefix, other)?;
     let text = other_order_text(alloc, &recording.history, &recording.picks, other)?;

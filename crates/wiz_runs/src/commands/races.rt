@@ -5,16 +5,16 @@ ghost use Rattle.c_program.specs.View.{pure_program};
 ghost use Rattle.c_program.specs.Program.{next_of};
 ghost use Rattle.group_plan.specs.Plans.{number_of_ranks};
 ghost use Rattle.mpi_call.specs.Lists.{IsIn};
-ghost use Rattle.msg_races.specs.declared.receives.Receive.{Receive};
+ghost use Rattle.msg_races.specs.declared.receives.WildcardReceive.{WildcardReceive};
 ghost use Rattle.other_picks.specs.declared.other.OtherPick.{OtherPick};
 ghost use Rattle.other_picks.specs.Others.{others_of};
 ghost use Rattle.wiz_runs.specs.RaceOrders.{IsOtherOrder};
-ghost use Rattle.wiz_runs.specs.Runs.{races_outcome, races_over_text, races_told};
-ghost use Rattle.wiz_task.specs.inside.Ends.{Ends};
+ghost use Rattle.wiz_runs.specs.Runs.{races_outcome, races_over_text, reported_races};
+ghost use Rattle.wiz_task.specs.inside.Ends.{EndsTask};
 ghost use Rattle.wiz_runs.specs.inside.Races.{AreRacesOf};
-ghost use Rattle.wiz_task.specs.inside.Recording.{IsMade};
+ghost use Rattle.wiz_task.specs.inside.Recording.{IsMadeRecording};
 ghost use Rattle.wiz_tool.specs.Outcomes.{run_outcome};
-ghost use Rattle.wiz_tool.specs.inside.Told.{IsToldBy};
+ghost use Rattle.wiz_tool.specs.inside.Told.{IsReportedBy};
 ghost use Rattle.wiz_tool.specs.Environment.{around};
 ghost use Rattle.wiz_words.specs.Texts.{run_with_texts};
 ghost use Rattle.wiz_words.specs.Words.{is_threaded_run};
@@ -49,7 +49,7 @@ pub fn races<'a, S: Store, K: Sink, R: Runner>(
 ) -> Result<Report, Failure<'a>>
     requires threads { R.is_threaded ≡ is_threaded_run (run_with_texts run.now) }
     requires runs { R.runs runner.now }
-    ensures { Ends (run_task (run_with_texts run.now) (TellsRaces (option_map (λ text. text.now) orders.entry))) (around S.told K.told store out) result }
+    ensures { EndsTask (run_task (run_with_texts run.now) (TellsRaces (option_map (λ text. text.now) orders.entry))) (around S.observed K.observed store out) result }
 {
     let ready = read_run(alloc, run, store)?;
     let recording = runner.record(alloc, &ready)?;
@@ -68,7 +68,7 @@ pub struct RacesText {
 
 /// The message races of a recorded run, or that there are too many.
 fn races_of(alloc: Global, ready: &Ready, recording: &Recording) -> Result<RacesText, AllocError>
-    requires { IsMade true ready.now recording.now }
+    requires { IsMadeRecording true ready.now recording.now }
     ensures { IfOk result (AreRacesOf ready.now recording.now) }
 {
     // A law: a run has one list of races, so that what is told of this run is determined.
@@ -88,7 +88,7 @@ fn races_of(alloc: Global, ready: &Ready, recording: &Recording) -> Result<Races
 
 /// A law: each other pick of a recorded run has an order, which is recorded into a run with it.
 fn others_are_recorded(ready: &Ready, recording: &Recording)
-    requires { IsMade true ready.now recording.now }
+    requires { IsMadeRecording true ready.now recording.now }
     ensures { (other : OtherPick) → IsIn other (others_of (number_of_ranks ready.now.plan) recording.now.history.events)
         → IsOtherOrder (next_of (pure_program ready.now.program)) (number_of_ranks ready.now.plan) recording.now other }
 {
@@ -116,10 +116,10 @@ fn write<S: Store, K: Sink>(
     store: &mut S,
     out: &mut K,
 ) -> Result<Report, AllocError>
-    requires { IsMade true ready.now recording }
-    ensures told { (receives : List Receive) → run_outcome told.status told.text recording [] ≡ races_told receives recording
-        → IsToldBy (races_outcome (option_map (λ text. text.now) orders.entry) (number_of_ranks ready.now.plan) receives recording) (around S.told K.told store out) result }
-    ensures reads { (S.told store.new).reads ≡ (S.told store.old).reads }
+    requires { IsMadeRecording true ready.now recording }
+    ensures told { (receives : List WildcardReceive) → run_outcome told.status told.text recording [] ≡ reported_races receives recording
+        → IsReportedBy (races_outcome (option_map (λ text. text.now) orders.entry) (number_of_ranks ready.now.plan) receives recording) (around S.observed K.observed store out) result }
+    ensures reads { (S.observed store.new).reads ≡ (S.observed store.old).reads }
 {
     let written = write_orders(alloc, orders, ready.plan.n(), &recording, store);
     let done = text_of_run(alloc, told.text, told.status, recording);

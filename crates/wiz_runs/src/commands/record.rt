@@ -1,9 +1,9 @@
 //! `record PROGRAM PLAN PREFIX [--order FILE] [--serial]`: a run is recorded, and the log of each group and the order are written.
 ghost use Rattle.std.specs.Prelude.{◌≡◌, ◌≤◌, length};
 ghost use Rattle.wiz_runs.specs.Runs.{record_outcome};
-ghost use Rattle.wiz_task.specs.inside.Ends.{Ends};
+ghost use Rattle.wiz_task.specs.inside.Ends.{EndsTask};
 ghost use Rattle.wiz_task.specs.inside.Recording.{AreInBounds};
-ghost use Rattle.wiz_tool.specs.inside.Told.{IsToldBy};
+ghost use Rattle.wiz_tool.specs.inside.Told.{IsReportedBy};
 ghost use Rattle.wiz_tool.specs.Environment.{around};
 ghost use Rattle.wiz_words.specs.Texts.{run_with_texts};
 ghost use Rattle.wiz_words.specs.Words.{is_threaded_run};
@@ -33,7 +33,7 @@ pub fn record<'a, S: Store, K: Sink, R: Runner>(
 ) -> Result<Report, Failure<'a>>
     requires threads { R.is_threaded ≡ is_threaded_run (run_with_texts run.now) }
     requires runs { R.runs runner.now }
-    ensures { Ends (run_task (run_with_texts run.now) (TellsRecord prefix.now)) (around S.told K.told store out) result }
+    ensures { EndsTask (run_task (run_with_texts run.now) (TellsRecord prefix.now)) (around S.observed K.observed store out) result }
 {
     let ready = read_run(alloc, run, store)?;
     let recording = runner.record(alloc, &ready)?;
@@ -51,8 +51,8 @@ fn write<S: Store, K: Sink>(
 ) -> Result<Report, AllocError>
     requires in_bounds { AreInBounds recording.logs }
     requires few { length recording.logs ≤ 64 }
-    ensures told { IsToldBy (record_outcome prefix.now recording) (around S.told K.told store out) result }
-    ensures reads { (S.told store.new).reads ≡ (S.told store.old).reads }
+    ensures told { IsReportedBy (record_outcome prefix.now recording) (around S.observed K.observed store out) result }
+    ensures reads { (S.observed store.new).reads ≡ (S.observed store.old).reads }
 {
     let text = record_text(alloc, &recording.outputs, &recording.ending)?;
     let status = of_ending(&recording.ending);

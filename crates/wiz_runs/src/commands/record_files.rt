@@ -3,7 +3,7 @@ ghost use Rattle.std.specs.Prelude.{◌≡◌, ◌+◌, ◌<◌, ◌≤◌, ◌^
 ghost use Rattle.std.specs.String.{string_bytes};
 ghost use Rattle.explanation_text.specs.OrderTexts.{order_text};
 ghost use Rattle.wiz_tool.specs.Files.{AreWritten};
-ghost use Rattle.wiz_runs.specs.RecordFiles.{files_of, order_name};
+ghost use Rattle.wiz_runs.specs.RecordFiles.{recording_files, order_name};
 ghost use Rattle.wiz_tool.specs.LogFiles.{log_files};
 ghost use Rattle.wiz_task.specs.inside.Recording.{AreInBounds};
 ghost use Rattle.wiz_tool.specs.inside.Told.{IsStopped};
@@ -26,9 +26,9 @@ pub fn write_files<S: Store>(
 ) -> Result<(), Unwritten>
     requires in_bounds { AreInBounds recording.now.logs }
     requires few { length recording.now.logs < 2 ^ 32 }
-    ensures ok { OnOk result (AreWritten (S.told store.old).files (S.told store.new).files (files_of prefix.now recording.now) []) }
-    ensures stopped { IfErr result (λ why. IsStopped (S.told store.old) (S.told store.new) (files_of prefix.now recording.now) why) }
-    ensures reads { (S.told store.new).reads ≡ (S.told store.old).reads }
+    ensures ok { OnOk result (AreWritten (S.observed store.old).files (S.observed store.new).files (recording_files prefix.now recording.now) []) }
+    ensures stopped { IfErr result (λ why. IsStopped (S.observed store.old) (S.observed store.new) (recording_files prefix.now recording.now) why) }
+    ensures reads { (S.observed store.new).reads ≡ (S.observed store.old).reads }
 {
     write_logs(alloc, prefix, 0, recording.logs.as_slice(), store)?;
     write_order(alloc, prefix, &recording.history, &recording.picks, store)
@@ -44,10 +44,10 @@ fn write_logs<S: Store>(
 ) -> Result<(), Unwritten>
     requires in_bounds { AreInBounds logs.now }
     requires few { group + length logs.now < 2 ^ 32 }
-    ensures ok { OnOk result (AreWritten (S.told store.old).files (S.told store.new).files (log_files prefix.now group logs.now) []) }
-    ensures stopped { IfErr result (λ why. IsStopped (S.told store.old) (S.told store.new) (log_files prefix.now group logs.now) why) }
-    ensures reads { (S.told store.new).reads ≡ (S.told store.old).reads }
-    ensures later { (S.told store.old).writes ≤ (S.told store.new).writes }
+    ensures ok { OnOk result (AreWritten (S.observed store.old).files (S.observed store.new).files (log_files prefix.now group logs.now) []) }
+    ensures stopped { IfErr result (λ why. IsStopped (S.observed store.old) (S.observed store.new) (log_files prefix.now group logs.now) why) }
+    ensures reads { (S.observed store.new).reads ≡ (S.observed store.old).reads }
+    ensures later { (S.observed store.old).writes ≤ (S.observed store.new).writes }
 {
     match logs {
         [] => Ok(()),
@@ -65,10 +65,10 @@ fn write_order<S: Store>(
     picks: &Picks,
     store: &mut S,
 ) -> Result<(), Unwritten>
-    ensures ok { OnOk result (AreWritten (S.told store.old).files (S.told store.new).files ((record { name = order_name prefix.now; bytes = order_text history.now.events picks.now.written }) ∷ []) []) }
-    ensures stopped { IfErr result (λ why. IsStopped (S.told store.old) (S.told store.new) ((record { name = order_name prefix.now; bytes = order_text history.now.events picks.now.written }) ∷ []) why) }
-    ensures reads { (S.told store.new).reads ≡ (S.told store.old).reads }
-    ensures later { (S.told store.old).writes ≤ (S.told store.new).writes }
+    ensures ok { OnOk result (AreWritten (S.observed store.old).files (S.observed store.new).files ((record { name = order_name prefix.now; bytes = order_text history.now.events picks.now.written }) ∷ []) []) }
+    ensures stopped { IfErr result (λ why. IsStopped (S.observed store.old) (S.observed store.new) ((record { name = order_name prefix.now; bytes = order_text history.now.events picks.now.written }) ∷ []) why) }
+    ensures reads { (S.observed store.new).reads ≡ (S.observed store.old).reads }
+    ensures later { (S.observed store.old).writes ≤ (S.observed store.new).writes }
 {
     let name = order_name(alloc, prefix)?;
     let text = order_text(alloc, history, picks)?;

@@ -2,9 +2,9 @@
 ghost use Rattle.c_program.specs.View.{pure_program};
 ghost use Rattle.std.specs.Prelude.{◌≡◌, [], IfOk, true};
 ghost use Rattle.wiz_runs.specs.Runs.{TellsWaits};
-ghost use Rattle.wiz_task.specs.inside.Ends.{Ends};
-ghost use Rattle.wiz_task.specs.inside.Recording.{IsMade};
-ghost use Rattle.wiz_tool.specs.inside.Told.{outcome_of};
+ghost use Rattle.wiz_task.specs.inside.Ends.{EndsTask};
+ghost use Rattle.wiz_task.specs.inside.Recording.{IsMadeRecording};
+ghost use Rattle.wiz_tool.specs.inside.Told.{outcome_written};
 ghost use Rattle.wiz_tool.specs.Environment.{around};
 ghost use Rattle.wiz_words.specs.Texts.{run_with_texts};
 ghost use Rattle.wiz_words.specs.Words.{is_threaded_run};
@@ -34,7 +34,7 @@ pub fn waits<'a, S: Store, K: Sink, R: Runner>(
 ) -> Result<Report, Failure<'a>>
     requires threads { R.is_threaded ≡ is_threaded_run (run_with_texts run.now) }
     requires runs { R.runs runner.now }
-    ensures { Ends (run_task (run_with_texts run.now) TellsWaits) (around S.told K.told store out) result }
+    ensures { EndsTask (run_task (run_with_texts run.now) TellsWaits) (around S.observed K.observed store out) result }
 {
     let ready = read_run(alloc, run, store)?;
     let recording = runner.record(alloc, &ready)?;
@@ -45,8 +45,8 @@ pub fn waits<'a, S: Store, K: Sink, R: Runner>(
 
 /// Who waits for whom in a recorded run.
 fn waits_of(alloc: Global, ready: &Ready, recording: Recording) -> Result<Done, AllocError>
-    requires { IsMade true ready.now recording }
-    ensures { IfOk result (λ done. TellsWaits (pure_program ready.now.program) ready.now.plan recording (outcome_of [] done)) }
+    requires { IsMadeRecording true ready.now recording }
+    ensures { IfOk result (λ done. TellsWaits (pure_program ready.now.program) ready.now.plan recording (outcome_written [] done)) }
 {
     let ranks = ready.plan.n();
     // Laws: a run is stuck where no call can go, a stuck run has a reason, and no message that would help lies about.

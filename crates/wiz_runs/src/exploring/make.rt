@@ -3,11 +3,11 @@ ghost use Rattle.std.specs.Prelude.{◌≡◌, ◌<◌, All, IfOk, List};
 ghost use Rattle.std.specs.List.{AllZip};
 ghost use Rattle.c_program.specs.View.{pure_program};
 ghost use Rattle.c_program.specs.Program.{next_of};
-ghost use Rattle.explore.specs.declared.found.Found.{Found};
+ghost use Rattle.explore.specs.declared.found.FoundOutcome.{FoundOutcome};
 ghost use Rattle.group_plan.specs.Plans.{number_of_ranks};
 ghost use Rattle.mpi_call.specs.declared.call.Halt.TheVariants.{Stuck};
 ghost use Rattle.mpi_call.specs.Lists.{IsIn};
-ghost use Rattle.picked_runs.specs.Turns.{IsTaken};
+ghost use Rattle.picked_runs.specs.Turns.{IsRunByTurns};
 ghost use Rattle.run_model.specs.declared.ending.Ending.TheVariants.{Halted};
 ghost use Rattle.run_model.specs.declared.event.Event.{Event};
 ghost use Rattle.wiz_runs.specs.Explorations.{IsWaiting, waits_of};
@@ -17,8 +17,8 @@ ghost use Rattle.wiz_task.specs.inside.Recording.{CanRun};
 use crate::exploring::start::Starter;
 use c_program::CProgram;
 use explanation_text::waits::waiting_text;
-use explore::course::{Bounds, Setting};
-use explore::found::{Explored, Found};
+use explore::course::{SearchLimits, Setting};
+use explore::found::{Explored, FoundOutcome};
 use explore::search::explore;
 use explore::watch::Watcher;
 use mpi_call::call::Halt;
@@ -29,7 +29,7 @@ use srr_record::record_serial;
 use std::alloc::{AllocError, Global};
 use wait_graph::stuck::graph;
 use wiz_base::Bytes;
-use wiz_task::ranks::{Rank, start_all};
+use wiz_task::ranks::{RunningRank, start_all};
 use wiz_task::ready::Ready;
 
 /// What a search found, and for each outcome the text of the ranks that wait in it.
@@ -43,7 +43,7 @@ pub struct Searched {
 pub fn search<W: Watcher>(
     alloc: Global,
     ready: &Ready,
-    bounds: Bounds,
+    bounds: SearchLimits,
     watcher: &mut W,
 ) -> Result<Searched, AllocError>
     requires { CanRun ready.now }
@@ -58,15 +58,15 @@ pub fn search<W: Watcher>(
         ranks: ready.plan.n(),
         under: ready.turns.as_slice(),
     };
-    let explored = explore::<CProgram, Rank<'_>, Starter<'_>, W>(&setting, bounds, watcher)?;
+    let explored = explore::<CProgram, RunningRank<'_>, Starter<'_>, W>(&setting, bounds, watcher)?;
     let waits = all_waits(alloc, ready, explored.found.as_slice())?;
     Ok(Searched { explored, waits })
 }
 
 /// Of each outcome the text of the ranks that wait.
-fn all_waits(alloc: Global, ready: &Ready, listed: &[Found]) -> Result<Outputs, AllocError>
+fn all_waits(alloc: Global, ready: &Ready, listed: &[FoundOutcome]) -> Result<Outputs, AllocError>
     requires ready { CanRun ready.now }
-    requires found { (found : Found) → IsIn found listed.now → IsFoundOf ready.now found }
+    requires found { (found : FoundOutcome) → IsIn found listed.now → IsFoundOf ready.now found }
     ensures { IfOk result (λ waits. AllZip (IsWaiting (next_of (pure_program ready.now.program)) (number_of_ranks ready.now.plan)) listed.now waits) }
 {
     let mut waits = Outputs::new(alloc);
@@ -78,7 +78,7 @@ fn all_waits(alloc: Global, ready: &Ready, listed: &[Found]) -> Result<Outputs, 
 }
 
 /// The ranks that wait in the run that the recording by an outcome's turns makes, where that is a deadlock.
-fn waits_in(alloc: Global, ready: &Ready, found: &Found) -> Result<Bytes, AllocError>
+fn waits_in(alloc: Global, ready: &Ready, found: &FoundOutcome) -> Result<Bytes, AllocError>
     requires ready { CanRun ready.now }
     requires found { IsFoundOf ready.now found.now }
     ensures { IfOk result (IsWaiting (next_of (pure_program ready.now.program)) (number_of_ranks ready.now.plan) found.now) }
@@ -93,7 +93,7 @@ fn waits_in(alloc: Global, ready: &Ready, found: &Found) -> Result<Bytes, AllocE
 fn waits_after(alloc: Global, ready: &Ready, turns: &[Turn]) -> Result<Bytes, AllocError>
     requires ready { CanRun ready.now }
     requires turns { All (λ turn. turn.rank < number_of_ranks ready.now.plan) turns.now }
-    ensures { IfOk result (λ text. (run : List Event) × IsTaken (next_of (pure_program ready.now.program)) (number_of_ranks ready.now.plan) turns.now run
+    ensures { IfOk result (λ text. (run : List Event) × IsRunByTurns (next_of (pure_program ready.now.program)) (number_of_ranks ready.now.plan) turns.now run
         × (text ≡ waits_of (number_of_ranks ready.now.plan) run (Halted Stuck))) }
 {
     let ranks = ready.plan.n();

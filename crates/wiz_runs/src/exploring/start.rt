@@ -4,7 +4,7 @@ ghost use Rattle.std.specs.Prelude.{◌≡◌};
 use c_program::CProgram;
 use explore::ranks::StartRanks;
 use std::alloc::{AllocError, Global};
-use wiz_task::ranks::{Rank, start_all};
+use wiz_task::ranks::{RunningRank, start_all};
 
 /// The ranks of a program, started as often as it is asked.
 #[derive(Drop)]
@@ -21,10 +21,10 @@ impl<'a> Starter<'a> {
     }
 }
 
-impl<'a> StartRanks<CProgram, Rank<'a>> for Starter<'a> {
+impl<'a> StartRanks<CProgram, RunningRank<'a>> for Starter<'a> {
     ghost program = { λ starter. starter.program.now };
 
-    fn start(&self, alloc: Global, n: u8) -> Result<Vec<Rank<'a>>, AllocError> {
+    fn start(&self, alloc: Global, n: u8) -> Result<Vec<RunningRank<'a>>, AllocError> {
         start_all(alloc, self.program, n)
     }
 }

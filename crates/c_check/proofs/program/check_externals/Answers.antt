@@ -1,6 +1,6 @@
 use Rattle.std.proofs.Common.{◌∙◌, ap, sym, drop, map, ◌+◌}
 use Rattle.c_grammar.specs.StmtView.{external_view}
-use Rattle.c_check_expr.specs.Least.{least_from}
+use Rattle.c_check_expr.specs.Least.{least_fault_from}
 use Rattle.c_check.specs.Programs.{externals_faults, seen_after}
 use Rattle.c_check.proofs.Names.{externals_same}
 use Rattle.c_check.proofs.Parameters.{externals_next}
@@ -12,7 +12,7 @@ loop-external-preserved c =
     let i = c.loop-external.invariant in
     let same = externals_same c.check_external.new.scope c.check_external.new.seen _ (map external_view (drop (c.loop-external.external-index + 1) c.args.externals.now)) c.in_ok-check_external.ensures.seen in
     let ensures = c.in_ok-check_external.ensures in
-    ap (least_from c.check_external.new.best) same
-    ∙ (λ j. least_from (ensures.faults j) (externals_faults (ensures.scope j) (seen_after c.loop-external.scope.text c.loop-external.seen (external_view c.external-item.result))
+    ap (least_fault_from c.check_external.new.best) same
+    ∙ (λ j. least_fault_from (ensures.faults j) (externals_faults (ensures.scope j) (seen_after c.loop-external.scope.text c.loop-external.seen (external_view c.external-item.result))
     (map external_view (drop (c.loop-external.external-index + 1) c.args.externals.now))))
     ∙ sym e ∙ i

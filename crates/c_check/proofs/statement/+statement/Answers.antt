@@ -3,7 +3,7 @@ use Rattle.c_grammar.specs.StmtView.{parts_view, simple_view, start_view, stmt_v
 use Rattle.c_grammar.specs.View.{view}
 use Rattle.c_grammar.proofs.StmtViewed.{view-block, view-break, view-continue, view-declare, view-do_while, view-empty, view-for, view-if_else, view-if_only, view-return, view-simple, view-stmt, view-while}
 use Rattle.c_check_expr.specs.Expressions.{int_faults}
-use Rattle.c_check_expr.specs.Least.{least_from}
+use Rattle.c_check_expr.specs.Least.{least_fault_from}
 use Rattle.c_check_expr.proofs.Wanted.{both}
 use Rattle.c_check.specs.Statements.{after_parts, after_start, stmt_faults}
 use Rattle.c_check.proofs.Closed.{closed_parts, closed_start, closing}
@@ -68,7 +68,7 @@ pub check_do-returns-clause-faults : goal.check_do-returns-clause-faults
 check_do-returns-clause-faults t c =
     both c.args.best.now c.check_stmt.new.best _ (stmt_faults c.args.scope.now c.args.gives true (stmt_view c.args.body.now)) (int_faults c.args.scope.now (view c.args.test.now))
     c.in_ok-check_stmt.ensures.faults
-    (c.want_int.ensures ∙ ap (λ env. least_from c.check_stmt.new.best (int_faults env (view c.args.test.now))) c.in_ok-check_stmt.ensures.scope)
+    (c.want_int.ensures ∙ ap (λ env. least_fault_from c.check_stmt.new.best (int_faults env (view c.args.test.now))) c.in_ok-check_stmt.ensures.scope)
 
 pub check_for-returns-clause-faults : goal.check_for-returns-clause-faults
 check_for-returns-clause-faults t c =

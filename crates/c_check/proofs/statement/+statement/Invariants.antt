@@ -3,7 +3,7 @@ use denote.Param.Weighed.{most}
 use Rattle.c_grammar.specs.declared.statement.Part.{size-Part}
 use Rattle.c_grammar.specs.declared.statement.Stmt.{size-Stmt}
 use Rattle.c_grammar.specs.StmtView.{parts_view}
-use Rattle.c_check_expr.specs.Least.{least_from}
+use Rattle.c_check_expr.specs.Least.{least_fault_from}
 use Rattle.c_check.specs.Statements.{after_parts, parts_faults}
 use Rattle.c_check.proofs.statement.+statement.Given as goal
 
@@ -33,7 +33,7 @@ decreases-check_block l = 4 * most size-Part l.parts.now + 2
 
 abbrev pub invariant-check_parts-loop-part : goal.invariant-check_parts-loop-part
 invariant-check_parts-loop-part l = record {
-  faults : least_from l.best (parts_faults l.scope l.gives l.loops (parts_view (drop l.part-index l.parts)))
-      ≡ least_from l.initial.best (parts_faults l.initial.scope l.gives l.loops (parts_view l.parts));
+  faults : least_fault_from l.best (parts_faults l.scope l.gives l.loops (parts_view (drop l.part-index l.parts)))
+      ≡ least_fault_from l.initial.best (parts_faults l.initial.scope l.gives l.loops (parts_view l.parts));
   scope : after_parts l.scope (parts_view (drop l.part-index l.parts)) ≡ after_parts l.initial.scope (parts_view l.parts);
 }

@@ -1,7 +1,7 @@
 use Rattle.std.proofs.Common.{◌∙◌, ap, map}
 use Rattle.c_grammar.proofs.Viewed.{view-chain, view-choice, view-field, view-paren, view-read, view-unary}
 use Rattle.c_grammar.specs.View.{links_from, piece, view}
-use Rattle.c_check_expr.specs.Constants.{chosen, constant_of, links_constant, unary_of, unary_constant}
+use Rattle.c_check_expr.specs.Constants.{chosen_constant, constant_of, links_constant, unary_of, unary_constant}
 use Rattle.c_check_expr.proofs.constant.+constant.Goals as goal
 
 pub constant_of-returns-in-Read : goal.constant_of-returns-in-Read
@@ -28,7 +28,7 @@ constant_of-returns-in-Chain t c =
 pub constant_of-returns-in-Choice : goal.constant_of-returns-in-Choice
 constant_of-returns-in-Choice t c =
     rw (c.in-Choice.is, view-choice)
-    (c.chosen.ensures ∙ ap (λ test. chosen test c.constant_of-a.result c.constant_of-b.result) (rw c.deref-in-Choice.ensures at c.constant_of-test.ensures)
-    ∙ ap (λ a. chosen (constant_of c.args.scope.now (view c.in-Choice.test.value)) a c.constant_of-b.result) (rw c.deref-in-Choice-2.ensures at c.constant_of-a.ensures)
-    ∙ ap (chosen (constant_of c.args.scope.now (view c.in-Choice.test.value)) (constant_of c.args.scope.now (view c.in-Choice.then.value)))
+    (c.chosen.ensures ∙ ap (λ test. chosen_constant test c.constant_of-a.result c.constant_of-b.result) (rw c.deref-in-Choice.ensures at c.constant_of-test.ensures)
+    ∙ ap (λ a. chosen_constant (constant_of c.args.scope.now (view c.in-Choice.test.value)) a c.constant_of-b.result) (rw c.deref-in-Choice-2.ensures at c.constant_of-a.ensures)
+    ∙ ap (chosen_constant (constant_of c.args.scope.now (view c.in-Choice.test.value)) (constant_of c.args.scope.now (view c.in-Choice.then.value)))
     (rw c.deref-in-Choice-3.ensures at c.constant_of-b.ensures))

@@ -3,7 +3,7 @@ use Rattle.c_grammar.proofs.Viewed.{view-cell, view-chain, view-choice, view-fie
 use Rattle.c_grammar.specs.View.{links_from, piece, place_view, view}
 use Rattle.c_names.specs.declared.kind.VariableKind.TheVariants.{Int}
 use Rattle.c_check_expr.specs.Expressions.{int_faults}
-use Rattle.c_check_expr.specs.Least.{least_from}
+use Rattle.c_check_expr.specs.Least.{least_fault_from}
 use Rattle.c_check_expr.specs.Scopes.{meaning, name_faults}
 use Rattle.c_check_expr.specs.declared.meaning.ExprKind.TheVariants.{Of}
 use Rattle.c_check_expr.proofs.Links.{faults_next}
@@ -50,7 +50,7 @@ check_expr-returns-in-Choice t c =
 
 pub check_place-returns-in-Whole : goal.check_place-returns-in-Whole
 check_place-returns-in-Whole t c =
-    rw (c.in-Whole.is, view-whole) (c.want_meaning.ensures ∙ ap (λ meant. least_from c.args.best.now (name_faults meant c.in-Whole.name)) c.meaning.ensures)
+    rw (c.in-Whole.is, view-whole) (c.want_meaning.ensures ∙ ap (λ meant. least_fault_from c.args.best.now (name_faults meant c.in-Whole.name)) c.meaning.ensures)
 
 pub check_place-returns-in-Cell : goal.check_place-returns-in-Cell
 check_place-returns-in-Cell t c =

@@ -1,11 +1,11 @@
 use Rattle.std.proofs.Common.{◌≡◌, ◌||◌, refl}
 use Rattle.c_names.specs.declared.kind.VariableKind.TheVariants.{Int, Status, Request, Communicator}
-use Rattle.c_check_expr.specs.Kinds.{fits}
+use Rattle.c_check_expr.specs.Kinds.{kind_fits}
 use Rattle.c_check_expr.specs.declared.meaning.ExprKind.{ExprKind}
 use Rattle.c_check_expr.specs.declared.meaning.ExprKind.TheVariants.{Of, NullRequest, Element, Other, Nothing}
 use Rattle.c_check_expr.proofs.kind.element_fits.Goals as goal
 
-one_fits : (wanted : ExprKind) → fits wanted Element ≡ (fits wanted (Of Int) || (fits wanted (Of Status) || (fits wanted (Of Request) || fits wanted (Of Communicator))))
+one_fits : (wanted : ExprKind) → kind_fits wanted Element ≡ (kind_fits wanted (Of Int) || (kind_fits wanted (Of Status) || (kind_fits wanted (Of Request) || kind_fits wanted (Of Communicator))))
 one_fits (Of Int) = refl
 one_fits (Of Status) = refl
 one_fits (Of Request) = refl

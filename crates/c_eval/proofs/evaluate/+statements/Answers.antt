@@ -1,19 +1,19 @@
 use Rattle.std.proofs.Common.{◌≡◌, ◌∙◌, ℤ, ◌+◌, ◌*◌, ◌-◌, ◌<◌, ◌≤◌, true, false, Some, None, Ok, Err, refl, sym, ap, arith, rules, drop, map, option_copied, option_map, w32, FitsSigned}
 use Rattle.std.proofs.lemmas.Int.{to_z-of_z}
 use denote.Param.Weighed.{most}
-use Rattle.c_program.specs.declared.statement.Part.{size-Part}
+use Rattle.c_program.specs.declared.statement.TypedPart.{size-TypedPart}
 use Rattle.std.proofs.lemmas.Result.{err_from_is_err_and}
-use Rattle.c_program.specs.Courses.{after}
+use Rattle.c_program.specs.Courses.{after_replies}
 use Rattle.c_program.specs.Meaning.{act, act_parts, act_part, begin, call_at, declare_all, exits_to, for_start, for_update, invoke, leaving, loop, loop_after, no_update, passed_all, return, right, simple, started, test, trying, turn_exits}
 use Rattle.c_program.specs.Performing.{Onward}
 use Rattle.c_program.specs.State.{State, leave, stack_mark, put}
-use Rattle.c_program.specs.Values.{cell_of}
+use Rattle.c_program.specs.Values.{cell_of_place}
 use Rattle.c_program.specs.View.{pure_argument, pure_call, pure_expr, pure_function, pure_initial, pure_item, pure_part, pure_parts, pure_place, pure_right, pure_simple, pure_start, pure_stmt}
 use Rattle.c_program.proofs.StmtViewed.{pure-block, pure-declare, pure-do_while, pure-for, pure-if_else, pure-if_only, pure-return, pure-simple, pure-stmt, pure-while}
-use Rattle.c_eval.specs.Leaving.{exit}
-use Rattle.c_eval.specs.Parts.{blocked, calls_of, for_of}
+use Rattle.c_eval.specs.inside.Leaving.{exit}
+use Rattle.c_eval.specs.inside.Parts.{blocked, calls_of, for_block}
 use Rattle.c_run_cells.specs.Parts.{assigned}
-use Rattle.c_eval.specs.Statements.{assigns, chosen, otherwise}
+use Rattle.c_eval.specs.inside.Statements.{assigns, branch, else_meaning}
 use Rattle.c_eval.proofs.Depths.{deepest, deepest-at, fewer-calls, weight}
 use Rattle.c_eval.proofs.Evaluations.{fails-stops, from, lifted, stops-from}
 use Rattle.c_eval.specs.declared.flow.Flow.TheVariants.{Next, Broke, Back}
@@ -45,24 +45,24 @@ act-returns-in-Block t c =
 
 pub act-returns-in-If : goal.act-returns-in-If
 act-returns-in-If t c =
-    from exit (act c.args.calls.now.rank (calls_of c.args.calls.now) (pure_stmt c.args.stmt.now)) (chosen (pure_expr c.in-If.test) (started (act c.args.calls.now.rank (calls_of c.args.calls.now) (pure_stmt c.deref-in-If.result.now))) (otherwise c.args.calls.now.rank (calls_of c.args.calls.now) None)) c.args.state.now c.args.state.now c.run_if.new.state c.args.replies.now c.args.replies.now c.run_if.new.replies c.run_if.result
+    from exit (act c.args.calls.now.rank (calls_of c.args.calls.now) (pure_stmt c.args.stmt.now)) (branch (pure_expr c.in-If.test) (started (act c.args.calls.now.rank (calls_of c.args.calls.now) (pure_stmt c.deref-in-If.result.now))) (else_meaning c.args.calls.now.rank (calls_of c.args.calls.now) None)) c.args.state.now c.args.state.now c.run_if.new.state c.args.replies.now c.args.replies.now c.run_if.new.replies c.run_if.result
     (λ k. rw (c.in-If.is, pure-if_only, c.deref-in-If.ensures) refl) (omega arith) (c.run_if.ensures)
 
 pub act-returns-in-IfElse : goal.act-returns-in-IfElse
 act-returns-in-IfElse t c =
-    from exit (act c.args.calls.now.rank (calls_of c.args.calls.now) (pure_stmt c.args.stmt.now)) (chosen (pure_expr c.in-IfElse.test) (started (act c.args.calls.now.rank (calls_of c.args.calls.now) (pure_stmt c.deref-in-IfElse.result.now))) (otherwise c.args.calls.now.rank (calls_of c.args.calls.now) (Some (pure_stmt c.deref-in-IfElse-2.result.now)))) c.args.state.now c.args.state.now c.run_if-in-IfElse.new.state c.args.replies.now c.args.replies.now c.run_if-in-IfElse.new.replies c.run_if-in-IfElse.result
+    from exit (act c.args.calls.now.rank (calls_of c.args.calls.now) (pure_stmt c.args.stmt.now)) (branch (pure_expr c.in-IfElse.test) (started (act c.args.calls.now.rank (calls_of c.args.calls.now) (pure_stmt c.deref-in-IfElse.result.now))) (else_meaning c.args.calls.now.rank (calls_of c.args.calls.now) (Some (pure_stmt c.deref-in-IfElse-2.result.now)))) c.args.state.now c.args.state.now c.run_if-in-IfElse.new.state c.args.replies.now c.args.replies.now c.run_if-in-IfElse.new.replies c.run_if-in-IfElse.result
     (λ k. rw (c.in-IfElse.is, pure-if_else, c.deref-in-IfElse.ensures, c.deref-in-IfElse-2.ensures) refl) (omega arith) (c.run_if-in-IfElse.ensures)
 
 pub run_if-returns-then-branch : goal.run_if-returns-then-branch
 run_if-returns-then-branch t c =
     let is : test (Some (pure_expr c.args.test.now)) c.args.state.now ≡ Ok true = sym c.test.ensures ∙ c.in_ok-test.was ∙ ap Ok c.if-branch.true in
-    from exit (chosen (pure_expr c.args.test.now) (started (act c.args.calls.now.rank (calls_of c.args.calls.now) (pure_stmt c.args.then.now))) (otherwise c.args.calls.now.rank (calls_of c.args.calls.now) (option_map pure_stmt (option_copied c.args.other)))) (started (act c.args.calls.now.rank (calls_of c.args.calls.now) (pure_stmt c.args.then.now))) c.args.state.now c.args.state.now c.run.new.state c.args.replies.now c.args.replies.now c.run.new.replies c.run.result
+    from exit (branch (pure_expr c.args.test.now) (started (act c.args.calls.now.rank (calls_of c.args.calls.now) (pure_stmt c.args.then.now))) (else_meaning c.args.calls.now.rank (calls_of c.args.calls.now) (option_map pure_stmt (option_copied c.args.other)))) (started (act c.args.calls.now.rank (calls_of c.args.calls.now) (pure_stmt c.args.then.now))) c.args.state.now c.args.state.now c.run.new.state c.args.replies.now c.args.replies.now c.run.new.replies c.run.result
     (λ k. rw is refl) (omega arith) (c.run.ensures)
 
 pub run_if-returns-in-Some : goal.run_if-returns-in-Some
 run_if-returns-in-Some t c =
     let is : test (Some (pure_expr c.args.test.now)) c.args.state.now ≡ Ok false = sym c.test.ensures ∙ c.in_ok-test.was ∙ ap Ok c.if-branch.false in
-    from exit (chosen (pure_expr c.args.test.now) (started (act c.args.calls.now.rank (calls_of c.args.calls.now) (pure_stmt c.args.then.now))) (otherwise c.args.calls.now.rank (calls_of c.args.calls.now) (option_map pure_stmt (option_copied c.args.other)))) (started (act c.args.calls.now.rank (calls_of c.args.calls.now) (pure_stmt c.in-Some.stmt.now))) c.args.state.now c.args.state.now c.run-in-Some.new.state c.args.replies.now c.args.replies.now c.run-in-Some.new.replies c.run-in-Some.result
+    from exit (branch (pure_expr c.args.test.now) (started (act c.args.calls.now.rank (calls_of c.args.calls.now) (pure_stmt c.args.then.now))) (else_meaning c.args.calls.now.rank (calls_of c.args.calls.now) (option_map pure_stmt (option_copied c.args.other)))) (started (act c.args.calls.now.rank (calls_of c.args.calls.now) (pure_stmt c.in-Some.stmt.now))) c.args.state.now c.args.state.now c.run-in-Some.new.state c.args.replies.now c.args.replies.now c.run-in-Some.new.replies c.run-in-Some.result
     (λ k. rw (is, c.in-Some.is) refl) (omega arith) (c.run-in-Some.ensures)
 
 pub act-returns-in-While : goal.act-returns-in-While
@@ -77,32 +77,32 @@ act-returns-in-Do t c =
 
 pub act-returns-in-For : goal.act-returns-in-For
 act-returns-in-For t c =
-    from exit (act c.args.calls.now.rank (calls_of c.args.calls.now) (pure_stmt c.args.stmt.now)) (for_of c.args.calls.now.rank (calls_of c.args.calls.now) (pure_start c.in-For.start) (option_map pure_expr (option_copied c.as_ref.result)) (option_map pure_simple (option_copied c.as_ref-in-For.result)) (started (act c.args.calls.now.rank (calls_of c.args.calls.now) (pure_stmt c.deref-in-For.result.now)))) c.args.state.now c.args.state.now c.run_for.new.state c.args.replies.now c.args.replies.now c.run_for.new.replies c.run_for.result
+    from exit (act c.args.calls.now.rank (calls_of c.args.calls.now) (pure_stmt c.args.stmt.now)) (for_block c.args.calls.now.rank (calls_of c.args.calls.now) (pure_start c.in-For.start) (option_map pure_expr (option_copied c.as_ref.result)) (option_map pure_simple (option_copied c.as_ref-in-For.result)) (started (act c.args.calls.now.rank (calls_of c.args.calls.now) (pure_stmt c.deref-in-For.result.now)))) c.args.state.now c.args.state.now c.run_for.new.state c.args.replies.now c.args.replies.now c.run_for.new.replies c.run_for.result
     (λ k. rw (c.in-For.is, pure-for, c.deref-in-For.ensures, c.as_ref.ensures.value, c.as_ref-in-For.ensures.value) refl) (omega arith) (c.run_for.ensures)
 
 pub call_function-returns-in_err-enter : goal.call_function-returns-in_err-enter
 call_function-returns-in_err-enter t c =
     let p = err_from_is_err_and c.from_residual.result c.from_residual.ensures.1 in
-    rw (p.1, p.2) (λ k. stops-from _ _ _ _ _ (ap (λ x. after x c.args.replies.now) (entering c.args.calls.now.rank c.args.calls.now.functions.now c.args.calls.now.depth c.args.number c.in-Some.function.now c.args.arguments.now c.args.state.now k (omega arith) c.in-Some.ensures.some)) (fails-stops _ _ _ c.args.replies.now (c.in_err-enter.ensures (λ s. act_parts c.args.calls.now.rank (call_at c.args.calls.now.rank (map pure_function c.args.calls.now.functions.now) (c.args.calls.now.depth - 1)) (pure_parts c.in-Some.function.now.body.items) s (exits_to (stack_mark c.args.state.now) k)))))
+    rw (p.1, p.2) (λ k. stops-from _ _ _ _ _ (ap (λ x. after_replies x c.args.replies.now) (entering c.args.calls.now.rank c.args.calls.now.functions.now c.args.calls.now.depth c.args.number c.in-Some.function.now c.args.arguments.now c.args.state.now k (omega arith) c.in-Some.ensures.some)) (fails-stops _ _ _ c.args.replies.now (c.in_err-enter.ensures (λ s. act_parts c.args.calls.now.rank (call_at c.args.calls.now.rank (map pure_function c.args.calls.now.functions.now) (c.args.calls.now.depth - 1)) (pure_parts c.in-Some.function.now.body.items) s (exits_to (stack_mark c.args.state.now) k)))))
 
 pub call_function-run_list-requires : goal.call_function-run_list-requires
 call_function-run_list-requires t c =
-    let deep : most size-Part c.in-Some.function.now.body.items ≤ deepest c.args.calls.now.functions.now = deepest-at _ _ _ c.in-Some.ensures.some in
-    let same : most size-Part c.deref.result.now ≡ most size-Part c.in-Some.function.now.body.items = ap (most size-Part) c.deref.ensures.value in
-    let falls : (c.args.calls.now.depth - 1) * weight c.args.calls.now.functions.now + (16 * most size-Part c.in-Some.function.now.body.items + 32) < c.args.calls.now.depth * weight c.args.calls.now.functions.now = fewer-calls c.args.calls.now.depth (weight c.args.calls.now.functions.now) (16 * most size-Part c.in-Some.function.now.body.items + 32) (omega arith) (omega arith) in
+    let deep : most size-TypedPart c.in-Some.function.now.body.items ≤ deepest c.args.calls.now.functions.now = deepest-at _ _ _ c.in-Some.ensures.some in
+    let same : most size-TypedPart c.deref.result.now ≡ most size-TypedPart c.in-Some.function.now.body.items = ap (most size-TypedPart) c.deref.ensures.value in
+    let falls : (c.args.calls.now.depth - 1) * weight c.args.calls.now.functions.now + (16 * most size-TypedPart c.in-Some.function.now.body.items + 32) < c.args.calls.now.depth * weight c.args.calls.now.functions.now = fewer-calls c.args.calls.now.depth (weight c.args.calls.now.functions.now) (16 * most size-TypedPart c.in-Some.function.now.body.items + 32) (omega arith) (omega arith) in
     (omega (arith, same, falls, c.decreases), search rules)
 
 pub call_function-returns-in_err-flow : goal.call_function-returns-in_err-flow
 call_function-returns-in_err-flow t c =
     let p = err_from_is_err_and c.from_residual-in_err-flow.result c.from_residual-in_err-flow.ensures.1 in
-    rw (p.1, p.2) (λ k. stops-from _ _ _ _ _ (ap (λ x. after x c.args.replies.now) (entering c.args.calls.now.rank c.args.calls.now.functions.now c.args.calls.now.depth c.args.number c.in-Some.function.now c.args.arguments.now c.args.state.now k (omega arith) c.in-Some.ensures.some) ∙ (lifted c.in_ok-enter.ensures c.args.replies.now).at (λ s. act_parts c.args.calls.now.rank (call_at c.args.calls.now.rank (map pure_function c.args.calls.now.functions.now) (c.args.calls.now.depth - 1)) (pure_parts c.in-Some.function.now.body.items) s (exits_to (stack_mark c.args.state.now) k)) ∙ rw c.deref.ensures.value refl) (c.in_err-flow.ensures (exits_to (stack_mark c.args.state.now) k)))
+    rw (p.1, p.2) (λ k. stops-from _ _ _ _ _ (ap (λ x. after_replies x c.args.replies.now) (entering c.args.calls.now.rank c.args.calls.now.functions.now c.args.calls.now.depth c.args.number c.in-Some.function.now c.args.arguments.now c.args.state.now k (omega arith) c.in-Some.ensures.some) ∙ (lifted c.in_ok-enter.ensures c.args.replies.now).at (λ s. act_parts c.args.calls.now.rank (call_at c.args.calls.now.rank (map pure_function c.args.calls.now.functions.now) (c.args.calls.now.depth - 1)) (pure_parts c.in-Some.function.now.body.items) s (exits_to (stack_mark c.args.state.now) k)) ∙ rw c.deref.ensures.value refl) (c.in_err-flow.ensures (exits_to (stack_mark c.args.state.now) k)))
 
 pub call_function-returns : goal.call_function-returns
 call_function-returns t c =
     let is : c.leave.new.self ≡ leave (stack_mark c.args.state.now) c.run_list.new.state = cc in
     let fits : FitsSigned w32 c.value_in.result = search rules in
     rw (to_z-of_z w32 c.value_in.result fits, c.value_in.ensures) (call-closes ((calls_of c.args.calls.now) c.args.number c.args.arguments.now) (act_parts c.args.calls.now.rank (call_at c.args.calls.now.rank (map pure_function c.args.calls.now.functions.now) (c.args.calls.now.depth - 1)) (pure_parts c.deref.result.now)) (stack_mark c.args.state.now) c.in_ok-flow.flow c.args.state.now c.enter.new.state c.run_list.new.state c.leave.new.self c.args.replies.now c.args.replies.now c.run_list.new.replies
-    (λ k. ap (λ x. after x c.args.replies.now) (entering c.args.calls.now.rank c.args.calls.now.functions.now c.args.calls.now.depth c.args.number c.in-Some.function.now c.args.arguments.now c.args.state.now k (omega arith) c.in-Some.ensures.some) ∙ (lifted c.in_ok-enter.ensures c.args.replies.now).at (λ s. act_parts c.args.calls.now.rank (call_at c.args.calls.now.rank (map pure_function c.args.calls.now.functions.now) (c.args.calls.now.depth - 1)) (pure_parts c.in-Some.function.now.body.items) s (exits_to (stack_mark c.args.state.now) k)) ∙ rw c.deref.ensures.value refl) ((lifted c.in_ok-enter.ensures c.args.replies.now).left) (c.in_ok-flow.ensures) is)
+    (λ k. ap (λ x. after_replies x c.args.replies.now) (entering c.args.calls.now.rank c.args.calls.now.functions.now c.args.calls.now.depth c.args.number c.in-Some.function.now c.args.arguments.now c.args.state.now k (omega arith) c.in-Some.ensures.some) ∙ (lifted c.in_ok-enter.ensures c.args.replies.now).at (λ s. act_parts c.args.calls.now.rank (call_at c.args.calls.now.rank (map pure_function c.args.calls.now.functions.now) (c.args.calls.now.depth - 1)) (pure_parts c.in-Some.function.now.body.items) s (exits_to (stack_mark c.args.state.now) k)) ∙ rw c.deref.ensures.value refl) ((lifted c.in_ok-enter.ensures c.args.replies.now).left) (c.in_ok-flow.ensures) is)
 
 pub declare-returns-in_err-cell : goal.declare-returns-in_err-cell
 declare-returns-in_err-cell t c =
@@ -125,7 +125,7 @@ declare-returns-in_ok-value-in-Right t c =
     let is : c.put.new.self ≡ put c.in_ok-cell.cell c.in_ok-value-in-Right.value c.value_of.new.state = c.put.ensures ∙ ap (λ v. put c.in_ok-cell.cell v c.value_of.new.state) (to_z-of_z w32 c.in_ok-value-in-Right.value fits) in
     let same : c.put.new.self.left ≡ c.value_of.new.state.left = ap (λ (u : State). u.left) is in
     record {
-      at = λ k. (lifted c.in_ok-cell.ensures c.args.replies.now).at (λ cell s. begin (calls_of c.args.calls.now) (pure_initial c.args.item.now.initial) cell s k) ∙ rw c.in-Right.is (c.in_ok-value-in-Right.ensures.at (λ v s. k (put c.in_ok-cell.cell v s))) ∙ ap (λ u. after (k u) c.value_of.new.replies) (sym is);
+      at = λ k. (lifted c.in_ok-cell.ensures c.args.replies.now).at (λ cell s. begin (calls_of c.args.calls.now) (pure_initial c.args.item.now.initial) cell s k) ∙ rw c.in-Right.is (c.in_ok-value-in-Right.ensures.at (λ v s. k (put c.in_ok-cell.cell v s))) ∙ ap (λ u. after_replies (k u) c.value_of.new.replies) (sym is);
       left = omega arith;
     }
 
@@ -242,7 +242,7 @@ run_for-returns-in_err-flow t c =
 pub run_for-returns : goal.run_for-returns
 run_for-returns t c =
     let is : c.leave.new.self ≡ leave (stack_mark c.args.state.now) c.repeat.new.state = cc in
-    block-closes (for_of c.args.calls.now.rank (calls_of c.args.calls.now) (pure_start c.args.start.now) (option_map pure_expr (option_copied c.args.test)) (option_map pure_simple (option_copied c.args.update)) (started (act c.args.calls.now.rank (calls_of c.args.calls.now) (pure_stmt c.args.body.now)))) (loop (option_map pure_expr (option_copied c.args.test)) (for_update c.args.calls.now.rank (calls_of c.args.calls.now) (option_map pure_simple (option_copied c.args.update))) (started (act c.args.calls.now.rank (calls_of c.args.calls.now) (pure_stmt c.args.body.now)))) (stack_mark c.args.state.now) c.in_ok-flow.flow c.args.state.now c.start_for.new.state c.repeat.new.state c.leave.new.self c.args.replies.now c.start_for.new.replies c.repeat.new.replies
+    block-closes (for_block c.args.calls.now.rank (calls_of c.args.calls.now) (pure_start c.args.start.now) (option_map pure_expr (option_copied c.args.test)) (option_map pure_simple (option_copied c.args.update)) (started (act c.args.calls.now.rank (calls_of c.args.calls.now) (pure_stmt c.args.body.now)))) (loop (option_map pure_expr (option_copied c.args.test)) (for_update c.args.calls.now.rank (calls_of c.args.calls.now) (option_map pure_simple (option_copied c.args.update))) (started (act c.args.calls.now.rank (calls_of c.args.calls.now) (pure_stmt c.args.body.now)))) (stack_mark c.args.state.now) c.in_ok-flow.flow c.args.state.now c.start_for.new.state c.repeat.new.state c.leave.new.self c.args.replies.now c.start_for.new.replies c.repeat.new.replies
     (λ k. c.in_ok-start_for.ensures.at (λ s. loop (option_map pure_expr (option_copied c.args.test)) (for_update c.args.calls.now.rank (calls_of c.args.calls.now) (option_map pure_simple (option_copied c.args.update))) (started (act c.args.calls.now.rank (calls_of c.args.calls.now) (pure_stmt c.args.body.now))) s (leaving (stack_mark c.args.state.now) k))) (c.in_ok-start_for.ensures.left) (c.in_ok-flow.ensures) is
 
 pub run_list-returns-in_err-flow : goal.run_list-returns-in_err-flow
@@ -255,7 +255,7 @@ run_list-returns-in_default t c =
     let few : c.loop-part.state.left ≤ c.args.state.now.left = c.loop-part.invariant.left in
     let fewer : c.run_part.new.state.left ≤ c.loop-part.state.left = c.in_ok-flow.ensures.left in
     record {
-      at = λ k. c.loop-part.invariant.comes k ∙ rw (at c.args.parts.now c.loop-part.part-index c.part-item.result c.loop-part-test.true c.part-item.is) refl ∙ c.in_ok-flow.ensures.at (record k { next = (λ s. act_parts c.args.calls.now.rank (calls_of c.args.calls.now) (pure_parts (drop (c.loop-part.part-index + 1) c.args.parts.now)) s k) }) ∙ ap (λ x. after x c.run_part.new.replies) (exit-other k (λ s. act_parts c.args.calls.now.rank (calls_of c.args.calls.now) (pure_parts (drop (c.loop-part.part-index + 1) c.args.parts.now)) s k) _ c.run_part.new.state c.in_default.not-Next);
+      at = λ k. c.loop-part.invariant.comes k ∙ rw (at c.args.parts.now c.loop-part.part-index c.part-item.result c.loop-part-test.true c.part-item.is) refl ∙ c.in_ok-flow.ensures.at (record k { next = (λ s. act_parts c.args.calls.now.rank (calls_of c.args.calls.now) (pure_parts (drop (c.loop-part.part-index + 1) c.args.parts.now)) s k) }) ∙ ap (λ x. after_replies x c.run_part.new.replies) (exit-other k (λ s. act_parts c.args.calls.now.rank (calls_of c.args.calls.now) (pure_parts (drop (c.loop-part.part-index + 1) c.args.parts.now)) s k) _ c.run_part.new.state c.in_default.not-Next);
       left = omega arith;
     }
 
@@ -294,20 +294,20 @@ run_part-returns-in-Stmt t c =
 pub assign-returns-in_err-value : goal.assign-returns-in_err-value
 assign-returns-in_err-value t c =
     let p = err_from_is_err_and c.from_residual-in_err-value.result c.from_residual-in_err-value.ensures.1 in
-    let cell : cell_of (pure_place c.args.place.now) c.args.state.now ≡ Ok c.in_ok-cell.cell = sym c.cell_of.ensures.value ∙ c.in_ok-cell.was in
+    let cell : cell_of_place (pure_place c.args.place.now) c.args.state.now ≡ Ok c.in_ok-cell.cell = sym c.cell_of.ensures.value ∙ c.in_ok-cell.was in
     rw (p.1, p.2) (λ k. stops-from _ _ _ _ _ (rw cell refl) (c.in_err-value.ensures (λ v s. assigned c.args.operator c.in_ok-cell.cell v s k)))
 
 pub assign-returns-in_err-put_assigned : goal.assign-returns-in_err-put_assigned
 assign-returns-in_err-put_assigned t c =
     let p = err_from_is_err_and c.from_residual-in_err-put_assigned.result c.from_residual-in_err-put_assigned.ensures.1 in
-    let cell : cell_of (pure_place c.args.place.now) c.args.state.now ≡ Ok c.in_ok-cell.cell = sym c.cell_of.ensures.value ∙ c.in_ok-cell.was in
+    let cell : cell_of_place (pure_place c.args.place.now) c.args.state.now ≡ Ok c.in_ok-cell.cell = sym c.cell_of.ensures.value ∙ c.in_ok-cell.was in
     let fits : FitsSigned w32 c.in_ok-value.value = search rules in
     let h = rw (to_z-of_z w32 c.in_ok-value.value fits) at c.in_err-put_assigned.ensures in
     rw (p.1, p.2) (λ k. stops-from _ _ _ _ _ (rw cell (c.in_ok-value.ensures.at (λ v s. assigned c.args.operator c.in_ok-cell.cell v s k))) (fails-stops _ _ _ c.value_of.new.replies (h k)))
 
 pub assign-returns : goal.assign-returns
 assign-returns t c =
-    let cell : cell_of (pure_place c.args.place.now) c.args.state.now ≡ Ok c.in_ok-cell.cell = sym c.cell_of.ensures.value ∙ c.in_ok-cell.was in
+    let cell : cell_of_place (pure_place c.args.place.now) c.args.state.now ≡ Ok c.in_ok-cell.cell = sym c.cell_of.ensures.value ∙ c.in_ok-cell.was in
     let fits : FitsSigned w32 c.in_ok-value.value = search rules in
     let h = rw (to_z-of_z w32 c.in_ok-value.value fits) at c.in_ok-put_assigned.ensures in
     let valued : c.value_of.new.state.left ≤ c.args.state.now.left = c.in_ok-value.ensures.left in

@@ -1,19 +1,19 @@
 use Rattle.std.proofs.Common.{◌≡◌, ℕ, ◌+◌, ◌*◌, ◌≤◌, Option, Some, None, drop, map, max, option_copied, option_map}
 use denote.Param.Weighed.{most}
-use Rattle.c_program.specs.declared.statement.Stmt.{Stmt, size-Stmt}
-use Rattle.c_program.specs.declared.statement.Part.{size-Part}
-use Rattle.c_program.specs.Courses.{after}
+use Rattle.c_program.specs.declared.statement.TypedStmt.{TypedStmt, size-TypedStmt}
+use Rattle.c_program.specs.declared.statement.TypedPart.{size-TypedPart}
+use Rattle.c_program.specs.Courses.{after_replies}
 use Rattle.c_program.specs.Meaning.{Exits, act, act_parts, declare_all, for_update, started}
 use Rattle.c_program.specs.Performing.{Onward}
 use Rattle.c_program.specs.View.{pure_expr, pure_item, pure_parts, pure_simple, pure_stmt}
-use Rattle.c_eval.specs.declared.calls.Calls.{Calls}
-use Rattle.c_eval.specs.Parts.{calls_of}
+use Rattle.c_eval.specs.declared.calls.CallContext.{CallContext}
+use Rattle.c_eval.specs.inside.Parts.{calls_of}
 use Rattle.c_eval.proofs.Depths.{weight}
 use Rattle.c_eval.proofs.Loops.{Turning}
 use Rattle.c_eval.proofs.evaluate.+statements.Given as goal
 
 -- what the calls of functions may still take
-abbrev depths : Calls → ℕ
+abbrev depths : CallContext → ℕ
 depths calls = calls.depth * weight calls.functions.now
 
 abbrev pub decreases-call_function : goal.decreases-call_function
@@ -47,49 +47,49 @@ abbrev pub decreases-run_return : goal.decreases-run_return
 decreases-run_return l = depths l.calls.now + 3
 
 abbrev pub decreases-act : goal.decreases-act
-decreases-act l = depths l.calls.now + (16 * size-Stmt l.stmt.now + 30)
+decreases-act l = depths l.calls.now + (16 * size-TypedStmt l.stmt.now + 30)
 
 abbrev pub decreases-run : goal.decreases-run
-decreases-run l = depths l.calls.now + (16 * size-Stmt l.stmt.now + 31)
+decreases-run l = depths l.calls.now + (16 * size-TypedStmt l.stmt.now + 31)
 
 -- how deep an `else` is
-abbrev other_size : Option Stmt → ℕ
+abbrev other_size : Option TypedStmt → ℕ
 other_size None = 0
-other_size (Some stmt) = size-Stmt stmt
+other_size (Some stmt) = size-TypedStmt stmt
 
 abbrev pub decreases-run_if : goal.decreases-run_if
-decreases-run_if l = depths l.calls.now + (16 * max (size-Stmt l.then.now) (other_size (option_copied l.other)) + 32)
+decreases-run_if l = depths l.calls.now + (16 * max (size-TypedStmt l.then.now) (other_size (option_copied l.other)) + 32)
 
 abbrev pub decreases-run_part : goal.decreases-run_part
-decreases-run_part l = depths l.calls.now + (16 * size-Part l.part.now + 31)
+decreases-run_part l = depths l.calls.now + (16 * size-TypedPart l.part.now + 31)
 
 abbrev pub decreases-run_list : goal.decreases-run_list
-decreases-run_list l = depths l.calls.now + (16 * most size-Part l.parts.now + 32)
+decreases-run_list l = depths l.calls.now + (16 * most size-TypedPart l.parts.now + 32)
 
 abbrev pub decreases-run_block : goal.decreases-run_block
-decreases-run_block l = depths l.calls.now + (16 * most size-Part l.parts.now + 33)
+decreases-run_block l = depths l.calls.now + (16 * most size-TypedPart l.parts.now + 33)
 
 abbrev pub decreases-take_turn : goal.decreases-take_turn
-decreases-take_turn l = depths l.calls.now + (16 * size-Stmt l.body.now + 32)
+decreases-take_turn l = depths l.calls.now + (16 * size-TypedStmt l.body.now + 32)
 
 abbrev pub decreases-repeat : goal.decreases-repeat
-decreases-repeat l = depths l.calls.now + (16 * size-Stmt l.body.now + 33)
+decreases-repeat l = depths l.calls.now + (16 * size-TypedStmt l.body.now + 33)
 
 abbrev pub decreases-repeat_after : goal.decreases-repeat_after
-decreases-repeat_after l = depths l.calls.now + (16 * size-Stmt l.body.now + 34)
+decreases-repeat_after l = depths l.calls.now + (16 * size-TypedStmt l.body.now + 34)
 
 abbrev pub decreases-run_for : goal.decreases-run_for
-decreases-run_for l = depths l.calls.now + (16 * size-Stmt l.body.now + 34)
+decreases-run_for l = depths l.calls.now + (16 * size-TypedStmt l.body.now + 34)
 
 abbrev pub invariant-declare_all-loop-item : goal.invariant-declare_all-loop-item
 invariant-declare_all-loop-item l = record {
-  comes : (k : Onward) → after (declare_all (calls_of l.calls) (map pure_item l.items) l.initial.state k) l.initial.replies ≡ after (declare_all (calls_of l.calls) (map pure_item (drop l.item-index l.items)) l.state k) l.replies;
+  comes : (k : Onward) → after_replies (declare_all (calls_of l.calls) (map pure_item l.items) l.initial.state k) l.initial.replies ≡ after_replies (declare_all (calls_of l.calls) (map pure_item (drop l.item-index l.items)) l.state k) l.replies;
   left : l.state.left ≤ l.initial.state.left;
 }
 
 abbrev pub invariant-run_list-loop-part : goal.invariant-run_list-loop-part
 invariant-run_list-loop-part l = record {
-  comes : (k : Exits) → after (act_parts l.calls.rank (calls_of l.calls) (pure_parts l.parts) l.initial.state k) l.initial.replies ≡ after (act_parts l.calls.rank (calls_of l.calls) (pure_parts (drop l.part-index l.parts)) l.state k) l.replies;
+  comes : (k : Exits) → after_replies (act_parts l.calls.rank (calls_of l.calls) (pure_parts l.parts) l.initial.state k) l.initial.replies ≡ after_replies (act_parts l.calls.rank (calls_of l.calls) (pure_parts (drop l.part-index l.parts)) l.state k) l.replies;
   left : l.state.left ≤ l.initial.state.left;
 }
 

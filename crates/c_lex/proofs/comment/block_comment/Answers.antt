@@ -1,5 +1,5 @@
 use Rattle.std.proofs.Common.{◌≡◌, subst, arith}
-use Rattle.c_lex.specs.Bytes.{IsRun}
+use Rattle.c_lex.specs.Bytes.{IsStretch}
 use Rattle.c_lex.specs.Steps.{comment, endless_comment, split_comment}
 use Rattle.c_lex.specs.declared.bytes.ByteClass.TheVariants.{InLine}
 use Rattle.c_lex.proofs.comment.block_comment.Goals as goal
@@ -26,7 +26,7 @@ returns-clause-stands c = comment (record {
         let high = w.run_end.ensures.high in
         let past = w.if-run_end-close.false in
         let e : w.run_end.result ≡ c.in-Some.close = omega arith in
-        subst (λ end. IsRun InLine c.args.text.now c.args.at c.in-Some.close end) e w.run_end.ensures
+        subst (λ end. IsStretch InLine c.args.text.now c.args.at c.in-Some.close end) e w.run_end.ensures
     | else-on_define-via-else-on_define w ↦ absurd (let no = w.if-on_define.false in cc)
   ];
 })

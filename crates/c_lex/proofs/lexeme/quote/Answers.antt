@@ -1,5 +1,5 @@
 use Rattle.std.proofs.Common.{◌≡◌, ◌+◌, sym, ◌∙◌, subst, arith}
-use Rattle.c_lex.specs.Bytes.{IsRun}
+use Rattle.c_lex.specs.Bytes.{IsStretch}
 use Rattle.c_lex.specs.Steps.{quoted, bad_inside, open_text}
 use Rattle.c_lex.specs.declared.bytes.ByteClass.TheVariants.{Printable}
 use Rattle.c_lex.proofs.lexeme.quote.Goals as goal
@@ -30,5 +30,5 @@ returns-else-place-close-clause-stands c =
     λ on_define. quoted (record {
       inside = c.inside_end-close.ensures.inside;
       closed = sym c.byte_at.ensures ∙ c.if-byte_at-ne34.false;
-      printable = subst (λ end. IsRun Printable c.args.text.now (c.args.at + 1) c.inside_end-close.result end) e c.run_end-place.ensures;
+      printable = subst (λ end. IsStretch Printable c.args.text.now (c.args.at + 1) c.inside_end-close.result end) e c.run_end-place.ensures;
     })

@@ -1,5 +1,5 @@
 use Rattle.std.proofs.Common.{false, inr, sym, ap, ◌∙◌, ◌++◌, ◌∷◌, [], subst}
-use Rattle.c_lex.specs.Readings.{Reads, FirstFault, skip, lexeme, bad, token_at, with_token}
+use Rattle.c_lex.specs.Readings.{ReadsTokens, FirstFault, skip, lexeme, bad, token_at, with_token}
 use Rattle.c_lex.proofs.Laws.{after, after_one, fault_one, one_reading, lexeme_inside, read_all}
 use Rattle.c_lex.proofs.SliceLaws.{tokens_are_slices}
 use Rattle.c_lex.proofs.lexer.tokens.Goals as goal
@@ -18,8 +18,8 @@ loop-at-preserved c =
     record {
       inside = lexeme_inside c.args.text.now c.loop-at.on_define c.loop-at.at c.in-Lexeme.kind c.in-Lexeme.end before.inside c.in-Lexeme.ensures.within;
       onward = λ reading behind.
-          let here = lexeme c.in-Lexeme.ensures.stands (subst (λ define. Reads c.args.text.now define c.in-Lexeme.end reading) c.stays_on_define-on_define.ensures behind) in
-          subst (Reads c.args.text.now false 0)
+          let here = lexeme c.in-Lexeme.ensures.stands (subst (λ define. ReadsTokens c.args.text.now define c.in-Lexeme.end reading) c.stays_on_define-on_define.ensures behind) in
+          subst (ReadsTokens c.args.text.now false 0)
           (sym (after_one c.loop-at.found one reading) ∙ ap (λ found. after found reading) (sym pushed))
           (before.onward (with_token one reading) here);
     }
@@ -28,7 +28,7 @@ pub returns-in-Bad-clause-fault : goal.returns-in-Bad-clause-fault
 returns-in-Bad-clause-fault c =
     inr (
       c.in-Bad.place,
-      subst (λ why. Reads c.args.text.now false 0 (FirstFault c.in-Bad.place why)) (sym c.fault_at.ensures.why) (c.loop-at.invariant.onward _ (bad c.in-Bad.ensures.stands)),
+      subst (λ why. ReadsTokens c.args.text.now false 0 (FirstFault c.in-Bad.place why)) (sym c.fault_at.ensures.why) (c.loop-at.invariant.onward _ (bad c.in-Bad.ensures.stands)),
       c.fault_at.ensures.place,
     )
 
@@ -41,7 +41,7 @@ pub returns-in-Bad-clause-only_fault : goal.returns-in-Bad-clause-only_fault
 returns-in-Bad-clause-only_fault c = λ first is.
     inr (fault_one c.args.text.now c.fault_at.result first (
       c.in-Bad.place,
-      subst (λ why. Reads c.args.text.now false 0 (FirstFault c.in-Bad.place why)) (sym c.fault_at.ensures.why) (c.loop-at.invariant.onward _ (bad c.in-Bad.ensures.stands)),
+      subst (λ why. ReadsTokens c.args.text.now false 0 (FirstFault c.in-Bad.place why)) (sym c.fault_at.ensures.why) (c.loop-at.invariant.onward _ (bad c.in-Bad.ensures.stands)),
       c.fault_at.ensures.place,
     )
     is)

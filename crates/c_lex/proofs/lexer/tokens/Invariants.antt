@@ -1,5 +1,5 @@
 use Rattle.std.proofs.Common.{◌≤◌, ◌+◌, ◌-◌, ◌*◌, false, cond, length}
-use Rattle.c_lex.specs.Readings.{Reading, Reads}
+use Rattle.c_lex.specs.Readings.{LexicalReading, ReadsTokens}
 use Rattle.c_lex.proofs.Laws.{after}
 use Rattle.c_lex.proofs.lexer.tokens.Given as goal
 
@@ -7,7 +7,7 @@ use Rattle.c_lex.proofs.lexer.tokens.Given as goal
 abbrev pub invariant-loop-at : goal.invariant-loop-at
 invariant-loop-at l = record {
   inside : l.at ≤ length l.text;
-  onward : (reading : Reading) → Reads l.text l.on_define l.at reading → Reads l.text false 0 (after l.found reading);
+  onward : (reading : LexicalReading) → ReadsTokens l.text l.on_define l.at reading → ReadsTokens l.text false 0 (after l.found reading);
 }
 
 abbrev pub decreases-loop-at : goal.decreases-loop-at

@@ -1,9 +1,9 @@
 use Rattle.std.proofs.Common.{◌≡◌, ◌++◌, length, option_map}
-use Rattle.c_names.specs.FormatReading.{pieces_from, pieces_of}
+use Rattle.c_names.specs.FormatReading.{pieces_from, format_pieces}
 use Rattle.c_names.proofs.format.pieces.Given as goal
 
 abbrev pub invariant-loop-left : goal.invariant-loop-left
-invariant-loop-left l = pieces_of l.format ≡ option_map (λ pieces. l.found.items ++ pieces) (pieces_from l.before l.left)
+invariant-loop-left l = format_pieces l.format ≡ option_map (λ pieces. l.found.items ++ pieces) (pieces_from l.before l.left)
 
 abbrev pub decreases-loop-left : goal.decreases-loop-left
 decreases-loop-left l = length l.left

@@ -1,7 +1,7 @@
 use Rattle.std.proofs.Common.{◌==◌, ◌+◌, ◌-◌, ◌*◌, length, map}
 use Rattle.c_grammar.specs.View.{piece}
 use Rattle.c_grammar.specs.Symbols.{level_of}
-use Rattle.c_grammar.specs.Reading.{bin_of, expr_at, link_of, unary_of}
+use Rattle.c_grammar.specs.Reading.{read_binary, expr_at, read_link, read_unary}
 use Rattle.c_parse.proofs.Loops.{SoFar}
 use Rattle.c_parse.proofs.expression.+expression.Given as goal
 
@@ -40,7 +40,7 @@ decreases-place l = 40 * l.left + 1
 
 abbrev pub invariant-links-loop-alloc : goal.invariant-links-loop-alloc
 invariant-links-loop-alloc l =
-    SoFar (λ x. level_of x == l.most) (link_of (bin_of (unary_of (expr_at (l.left - 1))) (l.most - 1)) l.most) l.terminals (map piece l.found.items) l.rest
+    SoFar (λ x. level_of x == l.most) (read_link (read_binary (read_unary (expr_at (l.left - 1))) (l.most - 1)) l.most) l.terminals (map piece l.found.items) l.rest
 
 abbrev pub decreases-links-loop-alloc : goal.decreases-links-loop-alloc
 decreases-links-loop-alloc l = length l.rest

@@ -2,7 +2,7 @@ use Rattle.std.proofs.Common.{◌≡◌, ◌<◌, ◌==◌, Bool, false, true, �
 use Rattle.c_grammar.specs.declared.tree.Link.{Link}
 use Rattle.c_grammar.specs.Tree as t
 use Rattle.c_grammar.specs.View.{view, piece, links_from}
-use Rattle.c_grammar.specs.Reading.{chained}
+use Rattle.c_grammar.specs.Reading.{chain_or_operand}
 use Rattle.c_grammar.proofs.Viewed.{view-chain}
 use Rattle.c_parse.proofs.expression.chain.Goals as goal
 
@@ -10,7 +10,7 @@ some : (test : Bool) (n m : ℕ) → test ≡ false → test ≡ (n == 0) → n 
 some test n zero p q r = absurd (let k : (n == 0) ≡ true = eq-eqb n 0 r in cc)
 some test n (suc m) p q r = omega arith
 
-chained_some : (k : ℕ) (e : t.Expr) (ls : List Link) → 0 < length ls → chained k e (map piece ls) ≡ t.chain k e (links_from (map piece ls))
+chained_some : (k : ℕ) (e : t.Expr) (ls : List Link) → 0 < length ls → chain_or_operand k e (map piece ls) ≡ t.chain k e (links_from (map piece ls))
 chained_some k e [] h = absurd (omega arith)
 chained_some k e (l ∷ ls) h = refl
 

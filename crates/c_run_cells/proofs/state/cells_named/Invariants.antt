@@ -1,5 +1,5 @@
 use Rattle.std.proofs.Common.{◌≡◌, None, length, map}
-use Rattle.c_run_cells.specs.Named.{cells_named}
+use Rattle.c_run_cells.specs.inside.Named.{cells_named}
 use Rattle.c_run_cells.specs.SlotView.{slot_view}
 use Rattle.c_run_cells.proofs.state.cells_named.Given as goal
 

@@ -1,6 +1,6 @@
 use Rattle.std.proofs.Common.{◌∙◌, ap, arith}
 use Rattle.std.proofs.lemmas.List.{drop_all}
-use Rattle.c_program.specs.Performing.{put_items}
+use Rattle.c_program.specs.Performing.{completing_of, put_items}
 use Rattle.c_run_replies.proofs.CompletionLaws.{item_put-left, items-next, items-trap}
 use Rattle.c_run_replies.proofs.completion.put_items.Goals as goal
 
@@ -18,4 +18,4 @@ loop-number-preserved c = record {
 }
 
 pub returns-clause-comes : goal.returns-clause-comes
-returns-clause-comes c = λ go. c.loop-number.invariant.comes go ∙ ap (λ items. put_items c.args.call.now.rank.ranks c.args.call.now.requests c.args.call.now.mode c.args.call.now.answer c.args.active.now c.loop-number.number items c.loop-number.state go) (drop_all c.loop-number.number c.args.items.now c.loop-number-test.false)
+returns-clause-comes c = λ go. c.loop-number.invariant.comes go ∙ ap (λ items. put_items (completing_of c.args.call.now.rank.ranks c.args.call.now.requests c.args.call.now.mode c.args.call.now.answer) c.args.active.now c.loop-number.number items c.loop-number.state go) (drop_all c.loop-number.number c.args.items.now c.loop-number-test.false)

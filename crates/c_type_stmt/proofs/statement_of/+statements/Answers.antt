@@ -6,9 +6,9 @@ use Rattle.c_grammar.specs.StmtView.{parts_view, start_view}
 use Rattle.c_grammar.proofs.StmtViewed.{view-declare, view-stmt}
 use Rattle.c_check.specs.Statements.{after_parts, after_start}
 use Rattle.c_check.proofs.Closed.{closed_parts, closed_start, closing}
-use Rattle.c_program.specs.declared.expr.Expr.{Expr}
-use Rattle.c_program.specs.declared.statement.Stmt.{Stmt}
-use Rattle.c_program.specs.declared.statement.Stmt.TheVariants as s
+use Rattle.c_program.specs.declared.expr.TypedExpr.{TypedExpr}
+use Rattle.c_program.specs.declared.statement.TypedStmt.{TypedStmt}
+use Rattle.c_program.specs.declared.statement.TypedStmt.TheVariants as s
 use Rattle.c_type_mpi.proofs.MpiRules.{of_ok}
 use Rattle.c_type_stmt.proofs.StatementRules.{block_parts, block_rule, break_rule, continue_rule, declare_faultless, declare_rule, do_body, do_rule, empty_rule, for_body, for_rule, for_start, for_step, for_typed, if_else_rule, if_else_spared, if_else_taken, if_rule, if_taken, ok_maps, on_maps, on_ok, part_next, parts_after, parts_end, parts_more, parts_next, return_faultless, return_rule, simple_faultless, simple_rule, stmt_faultless, stmt_rule, while_body, while_rule}
 use Rattle.c_type_stmt.proofs.statement_of.+statements.Goals as goal
@@ -109,8 +109,8 @@ stmt_of-boxed_of-requires t c = (
 
 pub stmt_of-returns-in_ok-tested-in-IfElse-clause-typed : goal.stmt_of-returns-in_ok-tested-in-IfElse-clause-typed
 stmt_of-returns-in_ok-tested-in-IfElse-clause-typed t c =
-    let tested : Box Stmt Global × Expr = c.in_ok-tested-in-IfElse.tested in
-    ok_maps {P = λ typed. (spared : Box Stmt Global) × (c.boxed_of.result ≡ Ok spared) × (typed ≡ s.IfElse tested.1 tested.0 spared)} c.if_else.result
+    let tested : Box TypedStmt Global × TypedExpr = c.in_ok-tested-in-IfElse.tested in
+    ok_maps {P = λ typed. (spared : Box TypedStmt Global) × (c.boxed_of.result ≡ Ok spared) × (typed ≡ s.IfElse tested.1 tested.0 spared)} c.if_else.result
     (λ typed h. if_else_rule c.args.scope.now c.args.stmt.now c.in-IfElse.keyword c.in-IfElse.opening c.in-IfElse.test c.in-IfElse.closing c.in-IfElse.then c.in-IfElse.else_keyword c.in-IfElse.other c.in-IfElse.is _ typed tested.1 tested.0 h.0 c.in_ok-tested-in-IfElse.ensures.scope h.2
     c.in_ok-tested-in-IfElse.ensures.test (rw c.deref-in-IfElse.ensures at c.in_ok-tested-in-IfElse.ensures.stmt)
     (rw c.deref-in-IfElse-2.ensures at (of_ok _ h.1 c.boxed_of.ensures.typed)))

@@ -3,7 +3,7 @@ use Rattle.mpi_call.specs.declared.call.Call.{Call}
 use Rattle.run_model.specs.declared.event.Event.{Event}
 use Rattle.run_model.specs.Views.{Next, replies_in, view_of}
 use Rattle.picked_runs.specs.declared.turn.Pick.{Pick}
-use Rattle.explore.specs.Courses.{IsAnswered, IsHeldBack}
+use Rattle.explore.specs.Courses.{IsAnswered, IsTurnHeldBack}
 use Rattle.explore.proofs.Again.{again_asked, again_made}
 use Rattle.explore.proofs.back.make_event.Goals as goal
 
@@ -27,7 +27,7 @@ returns-clause-made g c =
     let events : List Event = c.args.history.now.events in
     let event : Event = c.get-event.result.now in
     let after : List Event = c.answer.new.machine.events in
-    let F : List Event → Call → Pick → Type 0 = λ l call pick. MatchBool c.in_ok-answer.field-0 (IsAnswered next n l after event.rank call pick) (IsHeldBack n l after event.rank call pick) in
+    let F : List Event → Call → Pick → Type 0 = λ l call pick. MatchBool c.in_ok-answer.field-0 (IsAnswered next n l after (record { rank = event.rank; pick = pick }) call) (IsTurnHeldBack n l after (record { rank = event.rank; pick = pick }) call) in
     again_made next n c.args.picks.now.written events after c.args.at event c.in_ok-answer.field-0 c.requires.picked c.get-event.ensures c.requires.free
     (subst (λ p. F (take c.args.at events) event.call p) c.pick_at.ensures
     (subst (λ x. F (take c.args.at events) x c.pick_at.result) c.in_ok-call.ensures

@@ -4,7 +4,7 @@ use Rattle.mpi_call.specs.declared.reply.Reply.{Reply}
 use Rattle.mpi_call.specs.declared.reply.Reply.TheVariants.{Peeked}
 use Rattle.run_model.specs.declared.event.Event.{Event}
 use Rattle.run_model.specs.Views.{view_of}
-use Rattle.explore.specs.Probes.{last_or}
+use Rattle.explore.specs.inside.Probes.{last_or}
 use Rattle.explore.proofs.Probing.{by_bool, kept_apart, kept_by, kept_first, kept_other, not_kept}
 use Rattle.explore.proofs.probes.keeps_last.Goals as goal
 

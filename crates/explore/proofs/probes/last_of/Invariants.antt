@@ -1,6 +1,6 @@
 use Rattle.std.proofs.Common.{◌≡◌, None, length, option_map}
 use Rattle.run_model.specs.Views.{view_of}
-use Rattle.explore.specs.Probes.{last_or}
+use Rattle.explore.specs.inside.Probes.{last_or}
 use Rattle.explore.proofs.probes.last_of.Given as goal
 
 abbrev pub invariant-loop-rest : goal.invariant-loop-rest

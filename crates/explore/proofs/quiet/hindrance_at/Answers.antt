@@ -4,8 +4,8 @@ use Rattle.run_model.specs.declared.event.Event.{Event}
 use Rattle.run_model.specs.Views.{Next}
 use Rattle.quiet_calls.specs.Closure.{IsFarBelow}
 use Rattle.quiet_calls.specs.Quiet.{is_calm}
-use Rattle.explore.specs.Explored.{made_by}
-use Rattle.explore.specs.RaceFlags.{RaceFlags, races_of}
+use Rattle.explore.specs.Explored.{events_of_turns}
+use Rattle.explore.specs.inside.RaceFlags.{RaceFlags, races_of}
 use Rattle.explore.proofs.RaceLaws.{in_calm}
 use Rattle.explore.proofs.quiet.hindrance_at.Goals as goal
 
@@ -15,7 +15,7 @@ returns-in-None-clause-met g c none =
     let n : ℕ = c.args.setting.now.ranks in
     let flags : RaceFlags = c.args.races.now in
     let events : List Event = c.as_slice-events.result.now in
-    let same : events ≡ made_by next n c.args.turns.now = c.as_slice-events.ensures.events ∙ (c.history.ensures.events ∙ c.requires.course.events_are) in
+    let same : events ≡ events_of_turns next n c.args.turns.now = c.as_slice-events.ensures.events ∙ (c.history.ensures.events ∙ c.requires.course.events_are) in
     let B : List Event → Type 0 = λ l. IsFarBelow l in
     let C : List Event → Type 0 = λ l. is_calm (races_of flags) l ≡ true in
     record {

@@ -2,17 +2,17 @@ use Rattle.std.proofs.Common.{◌∙◌, ℕ, List, subst, sym}
 use Rattle.run_model.specs.declared.event.Event.{Event}
 use Rattle.run_model.specs.Run.{IsRun}
 use Rattle.run_model.specs.Views.{Next}
-use Rattle.run_states.specs.Outcomes.{Output}
 use Rattle.quiet_calls.specs.Quiet.{Races}
 use Rattle.explore.specs.Courses.{IsQuietlyAnswered}
-use Rattle.explore.specs.Explored.{made_by}
+use Rattle.explore.specs.Explored.{events_of_turns}
 use Rattle.explore.specs.QuietFirst.{IsLastAnswered}
-use Rattle.explore.specs.RaceFlags.{races_of}
+use Rattle.explore.specs.inside.RaceFlags.{races_of}
 use Rattle.explore.proofs.Begun.{run_of, stands_at}
 use Rattle.explore.proofs.Noting.{went_not}
 use Rattle.explore.proofs.QuietAlong.{after_here, after_there, quiet_here, stayed, went_along}
 use Rattle.explore.proofs.QuietLooked.{not_both, quiet_met}
 use Rattle.std.proofs.lemmas.Bool.Decides.{when_false, when_true}
+use Rattle.srr_entry.specs.Outputs.{Output}
 use Rattle.explore.proofs.quiet.make_quiet.Goals as goal
 
 pub make-requires-clause-run : goal.make-requires-clause-run
@@ -20,9 +20,9 @@ make-requires-clause-run g c =
     let next : Next = g.P.Program.next c.args.setting.now.program.now in
     let output : Output = g.P.Program.output c.args.setting.now.program.now in
     let n : ℕ = c.args.setting.now.ranks in
-    let root : List Event = made_by next n c.args.setting.now.under.now in
+    let root : List Event = events_of_turns next n c.args.setting.now.under.now in
     let program = c.args.setting.now.program.now in
-    let before : List Event = made_by next n c.args.turns.now in
+    let before : List Event = events_of_turns next n c.args.turns.now in
     let rank : ℕ = c.args.rank in
     let races : Races = races_of c.args.races.now in
     let machine = c.args.course.now.machine in
@@ -36,9 +36,9 @@ returns-then-not-branch g c =
     let next : Next = g.P.Program.next c.args.setting.now.program.now in
     let output : Output = g.P.Program.output c.args.setting.now.program.now in
     let n : ℕ = c.args.setting.now.ranks in
-    let root : List Event = made_by next n c.args.setting.now.under.now in
+    let root : List Event = events_of_turns next n c.args.setting.now.under.now in
     let program = c.args.setting.now.program.now in
-    let before : List Event = made_by next n c.args.turns.now in
+    let before : List Event = events_of_turns next n c.args.turns.now in
     let rank : ℕ = c.args.rank in
     let races : Races = races_of c.args.races.now in
     let machine = c.args.course.now.machine in
@@ -58,9 +58,9 @@ returns-then-not-is_last_answered g c =
     let next : Next = g.P.Program.next c.args.setting.now.program.now in
     let output : Output = g.P.Program.output c.args.setting.now.program.now in
     let n : ℕ = c.args.setting.now.ranks in
-    let root : List Event = made_by next n c.args.setting.now.under.now in
+    let root : List Event = events_of_turns next n c.args.setting.now.under.now in
     let program = c.args.setting.now.program.now in
-    let before : List Event = made_by next n c.args.turns.now in
+    let before : List Event = events_of_turns next n c.args.turns.now in
     let rank : ℕ = c.args.rank in
     let races : Races = races_of c.args.races.now in
     let machine = c.args.course.now.machine in
@@ -78,9 +78,9 @@ note-requires-clause-made g c =
     let next : Next = g.P.Program.next c.args.setting.now.program.now in
     let output : Output = g.P.Program.output c.args.setting.now.program.now in
     let n : ℕ = c.args.setting.now.ranks in
-    let root : List Event = made_by next n c.args.setting.now.under.now in
+    let root : List Event = events_of_turns next n c.args.setting.now.under.now in
     let program = c.args.setting.now.program.now in
-    let before : List Event = made_by next n c.args.turns.now in
+    let before : List Event = events_of_turns next n c.args.turns.now in
     let rank : ℕ = c.args.rank in
     let races : Races = races_of c.args.races.now in
     let machine = c.args.course.now.machine in
@@ -95,9 +95,9 @@ returns g c =
     let next : Next = g.P.Program.next c.args.setting.now.program.now in
     let output : Output = g.P.Program.output c.args.setting.now.program.now in
     let n : ℕ = c.args.setting.now.ranks in
-    let root : List Event = made_by next n c.args.setting.now.under.now in
+    let root : List Event = events_of_turns next n c.args.setting.now.under.now in
     let program = c.args.setting.now.program.now in
-    let before : List Event = made_by next n c.args.turns.now in
+    let before : List Event = events_of_turns next n c.args.turns.now in
     let rank : ℕ = c.args.rank in
     let races : Races = races_of c.args.races.now in
     let machine = c.args.course.now.machine in

@@ -1,8 +1,8 @@
 use Rattle.std.proofs.Common.{◌∙◌, ℕ, List, sym}
 use Rattle.run_model.specs.declared.event.Event.{Event}
 use Rattle.run_model.specs.Views.{Next}
-use Rattle.explore.specs.Explored.{made_by}
-use Rattle.explore.specs.RaceFlags.{races_of}
+use Rattle.explore.specs.Explored.{events_of_turns}
+use Rattle.explore.specs.inside.RaceFlags.{races_of}
 use Rattle.explore.proofs.Begun.{asked_call, course_asked, none_is, stands_at}
 use Rattle.explore.proofs.QuietLooked.{reckoned_more}
 use Rattle.explore.proofs.RaceLaws.{next_reckoned}
@@ -13,7 +13,7 @@ loop-rank-preserved g c =
     let next : Next = g.P.Program.next c.args.setting.now.program.now in
     let n : ℕ = c.args.setting.now.ranks in
     let program = c.args.setting.now.program.now in
-    let before : List Event = made_by next n c.args.turns.now in
+    let before : List Event = events_of_turns next n c.args.turns.now in
     let rank : ℕ = c.loop-rank.rank in
     let machine = c.loop-rank.course.machine in
     let runs = c.loop-rank.course.runs.items in

@@ -1,12 +1,12 @@
 use Rattle.explore.specs.Courses.{IsCourse}
-use Rattle.explore.specs.Explored.{made_by}
+use Rattle.explore.specs.Explored.{events_of_turns}
 use Rattle.explore.specs.QuietFirst.{AreReckonedBelow}
-use Rattle.explore.specs.RaceFlags.{races_of}
+use Rattle.explore.specs.inside.RaceFlags.{races_of}
 use Rattle.explore.proofs.quiet.race_of_next.Given as goal
 
 abbrev pub invariant-loop-rank : goal.invariant-loop-rank
 invariant-loop-rank g l =
     record {
-      course : IsCourse g.R.RankRun.standing l.setting.program.now l.setting.ranks (made_by (g.P.Program.next l.setting.program.now) l.setting.ranks l.turns) l.course.machine l.course.runs.items;
-      reckoned : AreReckonedBelow (g.P.Program.next l.setting.program.now) l.setting.ranks (races_of l.races) (made_by (g.P.Program.next l.setting.program.now) l.setting.ranks l.turns) l.rank;
+      course : IsCourse g.R.RankRun.standing l.setting.program.now l.setting.ranks (events_of_turns (g.P.Program.next l.setting.program.now) l.setting.ranks l.turns) l.course.machine l.course.runs.items;
+      reckoned : AreReckonedBelow (g.P.Program.next l.setting.program.now) l.setting.ranks (races_of l.races) (events_of_turns (g.P.Program.next l.setting.program.now) l.setting.ranks l.turns) l.rank;
     }

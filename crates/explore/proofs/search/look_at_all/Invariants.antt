@@ -1,14 +1,14 @@
 use Rattle.std.proofs.Common.{◌≤◌, List, length, take}
 use Rattle.mpi_call.specs.Lists.{IsIn}
 use Rattle.picked_runs.specs.declared.turn.Turn.{Turn}
-use Rattle.explore.specs.Explored.{made_by}
-use Rattle.explore.specs.Searching.{HasLookedAt, WentOn}
+use Rattle.explore.specs.Explored.{events_of_turns}
+use Rattle.explore.specs.Searching.{HasLookedAt, WentOn, question_of}
 use Rattle.explore.proofs.search.look_at_all.Given as goal
 
 abbrev pub invariant-loop-at : goal.invariant-loop-at
 invariant-loop-at g l =
     record {
-      went : WentOn (g.P.Program.next l.setting.program.now) (g.P.Program.output l.setting.program.now) l.setting.ranks (made_by (g.P.Program.next l.setting.program.now) l.setting.ranks l.setting.under.now) l.fn.met l.met;
+      went : WentOn (g.P.Program.next l.setting.program.now) (g.P.Program.output l.setting.program.now) l.setting.ranks (events_of_turns (g.P.Program.next l.setting.program.now) l.setting.ranks l.setting.under.now) l.fn.met l.met;
       few : l.at ≤ length l.met.states;
-      looked : (turns : List Turn) → IsIn turns (take l.at l.met.states) → HasLookedAt (g.P.Program.next l.setting.program.now) (g.P.Program.output l.setting.program.now) l.setting.ranks l.bounds.polls l.met turns;
+      looked : (turns : List Turn) → IsIn turns (take l.at l.met.states) → HasLookedAt (question_of (g.P.Program.next l.setting.program.now) (g.P.Program.output l.setting.program.now) l.setting.ranks l.bounds.polls) l.met turns;
     }

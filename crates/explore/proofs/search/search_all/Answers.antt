@@ -1,9 +1,9 @@
 use Rattle.std.proofs.Common.{◌∙◌, ℕ, List, ap, refl}
 use Rattle.run_model.specs.declared.event.Event.{Event}
 use Rattle.run_model.specs.Views.{Next}
-use Rattle.run_states.specs.Outcomes.{Output}
-use Rattle.explore.specs.Explored.{made_by}
+use Rattle.explore.specs.Explored.{events_of_turns}
 use Rattle.std.proofs.Common.{drop}
+use Rattle.srr_entry.specs.Outputs.{Output}
 use Rattle.explore.proofs.Looking.{explored_all}
 use Rattle.explore.proofs.search.search_all.Goals as goal
 
@@ -12,7 +12,7 @@ returns g c =
     let next : Next = g.P.Program.next c.args.setting.now.program.now in
     let output : Output = g.P.Program.output c.args.setting.now.program.now in
     let n : ℕ = c.args.setting.now.ranks in
-    let root : List Event = made_by next n c.args.setting.now.under.now in
+    let root : List Event = events_of_turns next n c.args.setting.now.under.now in
     let looked : ℕ = c.in_ok-looked.looked in
     let went = c.in_ok-looked.ensures.went in
     explored_all next output n c.args.bounds.polls c.args.setting.now.under.now c.begin.new.met c.look_at_all.new.met looked _

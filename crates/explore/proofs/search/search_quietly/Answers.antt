@@ -1,13 +1,13 @@
 use Rattle.std.proofs.Common.{◌≡◌, ◌∙◌, ℕ, List, ap, false, refl, subst, sym}
 use Rattle.run_model.specs.Views.{Next}
 use Rattle.picked_runs.specs.declared.turn.Turn.{Turn}
-use Rattle.run_states.specs.Outcomes.{Output}
+use Rattle.srr_entry.specs.Outputs.{Output}
 use Rattle.quiet_calls.specs.Quiet.{Races}
 use Rattle.explore.specs.declared.found.Explored.{Explored}
 use Rattle.explore.specs.declared.met.Met.{Met}
 use Rattle.explore.specs.Explored.{IsExplored}
 use Rattle.explore.specs.QuietFirst.{has_mismatch}
-use Rattle.explore.specs.RaceFlags.{races_of}
+use Rattle.explore.specs.inside.RaceFlags.{races_of}
 use Rattle.explore.proofs.QuietLooked.{not_both}
 use Rattle.explore.proofs.QuietSearched.{HasEndedQuietly, explored_quietly, whole_is}
 use Rattle.explore.proofs.search.search_quietly.Goals.{else-not-has_partial-via-then-not-has_partial+else-has_mismatch, else-not-has_partial-via-else-not-has_partial}

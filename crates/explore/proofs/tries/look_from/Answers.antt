@@ -2,9 +2,9 @@ use Rattle.std.proofs.Common.{Bool, ℕ, List, false, subst, true}
 use Rattle.run_model.specs.declared.event.Event.{Event}
 use Rattle.run_model.specs.Views.{Next}
 use Rattle.picked_runs.specs.declared.turn.Turn.{Turn}
-use Rattle.run_states.specs.Outcomes.{Output}
-use Rattle.explore.specs.Explored.{made_by}
-use Rattle.explore.specs.Searching.{HasTriedRanks}
+use Rattle.srr_entry.specs.Outputs.{Output}
+use Rattle.explore.specs.Explored.{events_of_turns}
+use Rattle.explore.specs.Searching.{HasTriedRanks, question_of}
 use Rattle.explore.proofs.Looking.{idle_end, looked_idle, looked_made}
 use Rattle.explore.proofs.RankTries.{went_trans}
 use Rattle.explore.proofs.Trying.{on_ok_map, on_ok_two}
@@ -15,8 +15,8 @@ returns-then-branch-clause-looked g c =
     let next : Next = g.P.Program.next c.args.setting.now.program.now in
     let output : Output = g.P.Program.output c.args.setting.now.program.now in
     let n : ℕ = c.args.setting.now.ranks in
-    let root : List Event = made_by next n c.args.setting.now.under.now in
-    let F : List Turn → Bool → Type 0 = λ l b. HasTriedRanks next output n c.args.bounds.polls c.try_ranks.new.met (made_by next n l) n b in
+    let root : List Event = events_of_turns next n c.args.setting.now.under.now in
+    let F : List Turn → Bool → Type 0 = λ l b. HasTriedRanks (question_of next output n c.args.bounds.polls) c.try_ranks.new.met (events_of_turns next n l) n b in
     looked_made next output n c.args.bounds.polls c.try_ranks.new.met root c.args.turns c.requires.state
     (subst (λ l. F l true) c.as_slice.ensures (subst (F c.as_slice.result.now) c.if-branch.true c.in_ok-try_ranks.ensures.tried))
 
@@ -25,9 +25,9 @@ note_end-requires-clause-end g c =
     let next : Next = g.P.Program.next c.args.setting.now.program.now in
     let output : Output = g.P.Program.output c.args.setting.now.program.now in
     let n : ℕ = c.args.setting.now.ranks in
-    let root : List Event = made_by next n c.args.setting.now.under.now in
-    let F : List Turn → Bool → Type 0 = λ l b. HasTriedRanks next output n c.args.bounds.polls c.try_ranks.new.met (made_by next n l) n b in
-    idle_end next output n c.args.bounds.polls c.try_ranks.new.met (made_by next n c.args.turns)
+    let root : List Event = events_of_turns next n c.args.setting.now.under.now in
+    let F : List Turn → Bool → Type 0 = λ l b. HasTriedRanks (question_of next output n c.args.bounds.polls) c.try_ranks.new.met (events_of_turns next n l) n b in
+    idle_end next output n c.args.bounds.polls c.try_ranks.new.met (events_of_turns next n c.args.turns)
     (subst (λ l. F l false) c.as_slice.ensures (subst (F c.as_slice.result.now) c.if-branch.false c.in_ok-try_ranks.ensures.tried))
 
 pub returns : goal.returns
@@ -35,8 +35,8 @@ returns g c =
     let next : Next = g.P.Program.next c.args.setting.now.program.now in
     let output : Output = g.P.Program.output c.args.setting.now.program.now in
     let n : ℕ = c.args.setting.now.ranks in
-    let root : List Event = made_by next n c.args.setting.now.under.now in
-    let F : List Turn → Bool → Type 0 = λ l b. HasTriedRanks next output n c.args.bounds.polls c.try_ranks.new.met (made_by next n l) n b in
+    let root : List Event = events_of_turns next n c.args.setting.now.under.now in
+    let F : List Turn → Bool → Type 0 = λ l b. HasTriedRanks (question_of next output n c.args.bounds.polls) c.try_ranks.new.met (events_of_turns next n l) n b in
     let tried = subst (λ l. F l false) c.as_slice.ensures (subst (F c.as_slice.result.now) c.if-branch.false c.in_ok-try_ranks.ensures.tried) in
     record {
       went = on_ok_map _ _ c.note_end.result (λ more. went_trans next output n root c.args.met.now c.try_ranks.new.met c.note_end.new.met c.in_ok-try_ranks.ensures.went more) c.note_end.ensures.went;

@@ -1,11 +1,11 @@
 use Rattle.std.proofs.Common.{◌≡◌, ◌+◌, Bool, ℕ, List, arith, inl, inr, sym, subst}
 use Rattle.run_model.specs.declared.event.Event.{Event}
 use Rattle.run_model.specs.Views.{Next}
-use Rattle.run_states.specs.Outcomes.{Output}
-use Rattle.explore.specs.Explored.{made_by}
+use Rattle.explore.specs.Explored.{events_of_turns}
 use Rattle.std.proofs.Common.{MatchBool}
 use Rattle.picked_runs.specs.declared.turn.Pick.TheVariants.{Index}
-use Rattle.explore.specs.Searching.{HasTried, HasTriedPicks, IsIndexBelow, IsUnanswered}
+use Rattle.srr_entry.specs.Outputs.{Output}
+use Rattle.explore.specs.Searching.{HasTried, HasTriedPicks, IsIndexBelow, IsUnanswered, question_of}
 use Rattle.explore.proofs.Joining.{picks_none}
 use Rattle.explore.proofs.Noting.{went_not}
 use Rattle.explore.proofs.RankTries.{index_more, joined, went_trans}
@@ -17,8 +17,8 @@ loop-index-init g c =
     let next : Next = g.P.Program.next c.args.setting.now.program.now in
     let output : Output = g.P.Program.output c.args.setting.now.program.now in
     let n : ℕ = c.args.setting.now.ranks in
-    let root : List Event = made_by next n c.args.setting.now.under.now in
-    let before : List Event = made_by next n c.args.turns.now in
+    let root : List Event = events_of_turns next n c.args.setting.now.under.now in
+    let before : List Event = events_of_turns next n c.args.turns.now in
     record {
       course = c.requires.course;
       went = went_not next output n root c.args.met.now c.requires.met;
@@ -30,14 +30,14 @@ loop-index-preserved g c =
     let next : Next = g.P.Program.next c.args.setting.now.program.now in
     let output : Output = g.P.Program.output c.args.setting.now.program.now in
     let n : ℕ = c.args.setting.now.ranks in
-    let root : List Event = made_by next n c.args.setting.now.under.now in
-    let before : List Event = made_by next n c.args.turns.now in
+    let root : List Event = events_of_turns next n c.args.setting.now.under.now in
+    let before : List Event = events_of_turns next n c.args.turns.now in
     let inv = c.loop-index.invariant in
     let ok = c.in_ok-try_turn.ensures in
     let made = joined c.in_ok-try_turn.field-0 c.loop-index.made c.if-branch.made
     (elim c.if-branch.branch [ then-branch w ↦ inl (w.if-branch.true, w.made-is) | else-branch w ↦ inr (w.if-branch.false, w.made-is) ]) in
-    let F : Bool → Type 0 = λ b. HasTriedPicks next output n c.args.bounds.polls c.try_turn.new.met before c.args.rank (IsIndexBelow (c.loop-index.index + 1)) b in
-    let G : ℕ → Type 0 = λ k. MatchBool c.in_ok-try_turn.field-0 (HasTried next output n c.args.bounds.polls c.try_turn.new.met before (record { rank = c.args.rank; pick = Index k }))
+    let F : Bool → Type 0 = λ b. HasTriedPicks (question_of next output n c.args.bounds.polls) c.try_turn.new.met before c.args.rank (IsIndexBelow (c.loop-index.index + 1)) b in
+    let G : ℕ → Type 0 = λ k. MatchBool c.in_ok-try_turn.field-0 (HasTried (question_of next output n c.args.bounds.polls) c.try_turn.new.met before (record { rank = c.args.rank; pick = Index k }))
     (IsUnanswered next n before (record { rank = c.args.rank; pick = Index k })) in
     let same : c.in-Ok.index ≡ c.loop-index.index = omega (arith, c.in-Ok.ensures) in
     record {
@@ -52,7 +52,7 @@ returns-clause-tried g c =
     let next : Next = g.P.Program.next c.args.setting.now.program.now in
     let output : Output = g.P.Program.output c.args.setting.now.program.now in
     let n : ℕ = c.args.setting.now.ranks in
-    let root : List Event = made_by next n c.args.setting.now.under.now in
+    let root : List Event = events_of_turns next n c.args.setting.now.under.now in
     let all : c.loop-index.index ≡ c.args.count = omega (arith, c.loop-index.auto.index-end, c.loop-index-test.false) in
-    let F : ℕ → Type 0 = λ k. HasTriedPicks next output n c.args.bounds.polls c.loop-index.met (made_by next n c.args.turns.now) c.args.rank (IsIndexBelow k) c.loop-index.made in
+    let F : ℕ → Type 0 = λ k. HasTriedPicks (question_of next output n c.args.bounds.polls) c.loop-index.met (events_of_turns next n c.args.turns.now) c.args.rank (IsIndexBelow k) c.loop-index.made in
     subst F all c.loop-index.invariant.tried

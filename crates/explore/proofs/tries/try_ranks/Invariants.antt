@@ -1,12 +1,12 @@
 use Rattle.explore.specs.Courses.{IsCourse}
-use Rattle.explore.specs.Explored.{made_by}
-use Rattle.explore.specs.Searching.{HasTriedRanks, WentOn}
+use Rattle.explore.specs.Explored.{events_of_turns}
+use Rattle.explore.specs.Searching.{HasTriedRanks, WentOn, question_of}
 use Rattle.explore.proofs.tries.try_ranks.Given as goal
 
 abbrev pub invariant-loop-rank : goal.invariant-loop-rank
 invariant-loop-rank g l =
     record {
-      course : IsCourse g.R.RankRun.standing l.setting.program.now l.setting.ranks (made_by (g.P.Program.next l.setting.program.now) l.setting.ranks l.turns) l.course.machine l.course.runs.items;
-      went : WentOn (g.P.Program.next l.setting.program.now) (g.P.Program.output l.setting.program.now) l.setting.ranks (made_by (g.P.Program.next l.setting.program.now) l.setting.ranks l.setting.under.now) l.fn.met l.met;
-      tried : HasTriedRanks (g.P.Program.next l.setting.program.now) (g.P.Program.output l.setting.program.now) l.setting.ranks l.bounds.polls l.met (made_by (g.P.Program.next l.setting.program.now) l.setting.ranks l.turns) l.rank l.made;
+      course : IsCourse g.R.RankRun.standing l.setting.program.now l.setting.ranks (events_of_turns (g.P.Program.next l.setting.program.now) l.setting.ranks l.turns) l.course.machine l.course.runs.items;
+      went : WentOn (g.P.Program.next l.setting.program.now) (g.P.Program.output l.setting.program.now) l.setting.ranks (events_of_turns (g.P.Program.next l.setting.program.now) l.setting.ranks l.setting.under.now) l.fn.met l.met;
+      tried : HasTriedRanks (question_of (g.P.Program.next l.setting.program.now) (g.P.Program.output l.setting.program.now) l.setting.ranks l.bounds.polls) l.met (events_of_turns (g.P.Program.next l.setting.program.now) l.setting.ranks l.turns) l.rank l.made;
     }

@@ -1,9 +1,9 @@
 use Rattle.std.proofs.Common.{◌≡◌, ◌+◌, Bool, ℕ, List, arith, inl, inr, sym, subst}
 use Rattle.run_model.specs.declared.event.Event.{Event}
 use Rattle.run_model.specs.Views.{Next}
-use Rattle.run_states.specs.Outcomes.{Output}
-use Rattle.explore.specs.Explored.{made_by}
-use Rattle.explore.specs.Searching.{HasTriedPicks, IsSenderBelow}
+use Rattle.srr_entry.specs.Outputs.{Output}
+use Rattle.explore.specs.Explored.{events_of_turns}
+use Rattle.explore.specs.Searching.{HasTriedPicks, IsSenderBelow, question_of}
 use Rattle.explore.proofs.Joining.{picks_none}
 use Rattle.explore.proofs.Noting.{went_not}
 use Rattle.explore.proofs.RankTries.{joined, sender_more, went_trans}
@@ -15,8 +15,8 @@ loop-sender-init g c =
     let next : Next = g.P.Program.next c.args.setting.now.program.now in
     let output : Output = g.P.Program.output c.args.setting.now.program.now in
     let n : ℕ = c.args.setting.now.ranks in
-    let root : List Event = made_by next n c.args.setting.now.under.now in
-    let before : List Event = made_by next n c.args.turns.now in
+    let root : List Event = events_of_turns next n c.args.setting.now.under.now in
+    let before : List Event = events_of_turns next n c.args.turns.now in
     record {
       course = c.requires.course;
       went = went_not next output n root c.args.met.now c.requires.met;
@@ -28,13 +28,13 @@ loop-sender-preserved g c =
     let next : Next = g.P.Program.next c.args.setting.now.program.now in
     let output : Output = g.P.Program.output c.args.setting.now.program.now in
     let n : ℕ = c.args.setting.now.ranks in
-    let root : List Event = made_by next n c.args.setting.now.under.now in
-    let before : List Event = made_by next n c.args.turns.now in
+    let root : List Event = events_of_turns next n c.args.setting.now.under.now in
+    let before : List Event = events_of_turns next n c.args.turns.now in
     let inv = c.loop-sender.invariant in
     let ok = c.in_ok-try_turn.ensures in
     let made = joined c.in_ok-try_turn.field-0 c.loop-sender.made c.if-branch.made
     (elim c.if-branch.branch [ then-branch w ↦ inl (w.if-branch.true, w.made-is) | else-branch w ↦ inr (w.if-branch.false, w.made-is) ]) in
-    let F : Bool → Type 0 = λ b. HasTriedPicks next output n c.args.bounds.polls c.try_turn.new.met before c.args.rank (IsSenderBelow (c.loop-sender.sender + 1)) b in
+    let F : Bool → Type 0 = λ b. HasTriedPicks (question_of next output n c.args.bounds.polls) c.try_turn.new.met before c.args.rank (IsSenderBelow (c.loop-sender.sender + 1)) b in
     record {
       course = ok.course;
       went = went_trans next output n root c.args.met.now c.loop-sender.met c.try_turn.new.met inv.went ok.went;
@@ -47,7 +47,7 @@ returns-clause-tried g c =
     let next : Next = g.P.Program.next c.args.setting.now.program.now in
     let output : Output = g.P.Program.output c.args.setting.now.program.now in
     let n : ℕ = c.args.setting.now.ranks in
-    let root : List Event = made_by next n c.args.setting.now.under.now in
+    let root : List Event = events_of_turns next n c.args.setting.now.under.now in
     let all : c.loop-sender.sender ≡ c.args.count = omega (arith, c.loop-sender.auto.sender-end, c.loop-sender-test.false) in
-    let F : ℕ → Type 0 = λ k. HasTriedPicks next output n c.args.bounds.polls c.loop-sender.met (made_by next n c.args.turns.now) c.args.rank (IsSenderBelow k) c.loop-sender.made in
+    let F : ℕ → Type 0 = λ k. HasTriedPicks (question_of next output n c.args.bounds.polls) c.loop-sender.met (events_of_turns next n c.args.turns.now) c.args.rank (IsSenderBelow k) c.loop-sender.made in
     subst F all c.loop-sender.invariant.tried

@@ -1,13 +1,13 @@
 use Rattle.std.proofs.Common.{◌∙◌, ℕ, List, sym}
 use Rattle.run_model.specs.declared.event.Event.{Event}
 use Rattle.run_model.specs.Views.{Next}
-use Rattle.run_states.specs.Outcomes.{Output}
-use Rattle.explore.specs.Explored.{made_by}
+use Rattle.explore.specs.Explored.{events_of_turns}
 use Rattle.explore.proofs.Again.{ahead_by}
 use Rattle.explore.proofs.Begun.{answered_there, asked_call, asked_there, course_asked, course_held, held_there, stands_at}
 use Rattle.explore.proofs.Noting.{went_not}
 use Rattle.explore.proofs.Tried.{unanswered_ended, unanswered_held}
 use Rattle.std.proofs.lemmas.Bool.Decides.{when_false, when_true}
+use Rattle.srr_entry.specs.Outputs.{Output}
 use Rattle.explore.proofs.tries.try_turn.Goals as goal
 
 pub returns-in_default : goal.returns-in_default
@@ -15,9 +15,9 @@ returns-in_default g c =
     let next : Next = g.P.Program.next c.args.setting.now.program.now in
     let output : Output = g.P.Program.output c.args.setting.now.program.now in
     let n : ℕ = c.args.setting.now.ranks in
-    let root : List Event = made_by next n c.args.setting.now.under.now in
+    let root : List Event = events_of_turns next n c.args.setting.now.under.now in
     let program = c.args.setting.now.program.now in
-    let before : List Event = made_by next n c.args.turns.now in
+    let before : List Event = events_of_turns next n c.args.turns.now in
     let rank : ℕ = c.args.turn.rank in
     let run = c.index_mut.result.now in
     let stands = stands_at g.R.RankRun.standing program n before c.args.course.now.machine c.args.course.now.runs.items rank run c.requires.course c.requires.rank c.index_mut.ensures.value in
@@ -34,9 +34,9 @@ answer-requires-clause-next g c =
     let next : Next = g.P.Program.next c.args.setting.now.program.now in
     let output : Output = g.P.Program.output c.args.setting.now.program.now in
     let n : ℕ = c.args.setting.now.ranks in
-    let root : List Event = made_by next n c.args.setting.now.under.now in
+    let root : List Event = events_of_turns next n c.args.setting.now.under.now in
     let program = c.args.setting.now.program.now in
-    let before : List Event = made_by next n c.args.turns.now in
+    let before : List Event = events_of_turns next n c.args.turns.now in
     let rank : ℕ = c.args.turn.rank in
     let run = c.index_mut.result.now in
     let stands = stands_at g.R.RankRun.standing program n before c.args.course.now.machine c.args.course.now.runs.items rank run c.requires.course c.requires.rank c.index_mut.ensures.value in
@@ -49,9 +49,9 @@ returns-then-not-branch g c =
     let next : Next = g.P.Program.next c.args.setting.now.program.now in
     let output : Output = g.P.Program.output c.args.setting.now.program.now in
     let n : ℕ = c.args.setting.now.ranks in
-    let root : List Event = made_by next n c.args.setting.now.under.now in
+    let root : List Event = events_of_turns next n c.args.setting.now.under.now in
     let program = c.args.setting.now.program.now in
-    let before : List Event = made_by next n c.args.turns.now in
+    let before : List Event = events_of_turns next n c.args.turns.now in
     let rank : ℕ = c.args.turn.rank in
     let run = c.index_mut.result.now in
     let stands = stands_at g.R.RankRun.standing program n before c.args.course.now.machine c.args.course.now.runs.items rank run c.requires.course c.requires.rank c.index_mut.ensures.value in
@@ -71,9 +71,9 @@ note-requires-clause-made g c =
     let next : Next = g.P.Program.next c.args.setting.now.program.now in
     let output : Output = g.P.Program.output c.args.setting.now.program.now in
     let n : ℕ = c.args.setting.now.ranks in
-    let root : List Event = made_by next n c.args.setting.now.under.now in
+    let root : List Event = events_of_turns next n c.args.setting.now.under.now in
     let program = c.args.setting.now.program.now in
-    let before : List Event = made_by next n c.args.turns.now in
+    let before : List Event = events_of_turns next n c.args.turns.now in
     let rank : ℕ = c.args.turn.rank in
     let run = c.index_mut.result.now in
     let stands = stands_at g.R.RankRun.standing program n before c.args.course.now.machine c.args.course.now.runs.items rank run c.requires.course c.requires.rank c.index_mut.ensures.value in
@@ -91,9 +91,9 @@ returns-clause-course g c =
     let next : Next = g.P.Program.next c.args.setting.now.program.now in
     let output : Output = g.P.Program.output c.args.setting.now.program.now in
     let n : ℕ = c.args.setting.now.ranks in
-    let root : List Event = made_by next n c.args.setting.now.under.now in
+    let root : List Event = events_of_turns next n c.args.setting.now.under.now in
     let program = c.args.setting.now.program.now in
-    let before : List Event = made_by next n c.args.turns.now in
+    let before : List Event = events_of_turns next n c.args.turns.now in
     let rank : ℕ = c.args.turn.rank in
     let run = c.index_mut.result.now in
     let stands = stands_at g.R.RankRun.standing program n before c.args.course.now.machine c.args.course.now.runs.items rank run c.requires.course c.requires.rank c.index_mut.ensures.value in

@@ -1,5 +1,5 @@
 use Rattle.std.proofs.Common.{take}
-use Rattle.msg_races.specs.Completions.{AreCompletions}
+use Rattle.msg_races.specs.inside.Completions.{AreCompletions}
 use Rattle.msg_races.specs.Ways.{AreSends}
 use Rattle.msg_races.proofs.seen.see.Given as goal
 

@@ -1,11 +1,11 @@
 use Rattle.std.proofs.Common.{◌≡◌, ◌<◌, ◌∙◌, ◌++◌, [], ℕ, List, ap, ap₂, append-nil, arith, filter, length, map, slice_get, sym, take}
 use Rattle.run_model.specs.Lists.{world}
-use Rattle.run_model.specs.Views.{starts_of, view_of}
-use Rattle.other_picks.specs.declared.listing.Receive.{Receive}
+use Rattle.run_model.specs.Views.{starts_of, view_of, rank_of_event}
+use Rattle.other_picks.specs.declared.listing.PairedReceive.{PairedReceive}
 use Rattle.other_picks.specs.declared.other.OtherPick.{OtherPick}
 use Rattle.other_picks.specs.declared.other.TheConstants.{MOST_OTHER_PICKS}
-use Rattle.other_picks.specs.Known.{could_take, with_sender}
-use Rattle.other_picks.specs.Others.{others_at, rank_in}
+use Rattle.other_picks.specs.inside.Known.{could_take, with_sender}
+use Rattle.other_picks.specs.Others.{others_at}
 use Rattle.other_picks.proofs.Reading.{alone_none, named_none, receive_found}
 use Rattle.other_picks.proofs.listing.add_others.Goals as goal
 
@@ -20,10 +20,10 @@ returns-in_ok-add_senders-in-Some-mate c =
     let wildcard = c.in-Some.wildcard in
     let mate : ℕ = c.in-Some-mate.mate in
     let below : c.args.event.now.rank < 256 = omega arith in
-    let receive : ℕ → ℕ → Receive = λ start took. record { at = length before; rank = event.rank; start = start; wildcard = wildcard; took = took } in
-    let listed : Receive → List OtherPick = λ r. map (with_sender r) (filter (could_take before r) (world c.args.n 0)) in
+    let receive : ℕ → ℕ → PairedReceive = λ start took. record { at = length before; rank = event.rank; start = start; wildcard = wildcard; took = took } in
+    let listed : PairedReceive → List OtherPick = λ r. map (with_sender r) (filter (could_take before r) (world c.args.n 0)) in
     let start : c.get.result ≡ length (starts_of (view_of before event.rank)) = c.get.ensures.count ∙ c.requires.known.starts.each event.rank below in
-    let took : c.rank_at.result ≡ rank_in (slice_get before mate) = c.rank_at.ensures in
+    let took : c.rank_at.result ≡ rank_of_event (slice_get before mate) = c.rank_at.ensures in
     c.in_ok-add_senders-in-Some-mate.ensures before c.requires.known.matcher
     ∙ ap (λ l. take MOST_OTHER_PICKS (c.args.others.now ++ l))
     (ap₂ (λ s t. listed (receive s t)) start took

@@ -1,6 +1,6 @@
 use Rattle.std.proofs.Common.{◌∙◌, ap, append-nil, sym, take}
 use Rattle.other_picks.specs.declared.other.TheConstants.{MOST_OTHER_PICKS}
-use Rattle.other_picks.specs.Known.{could_take, with_sender}
+use Rattle.other_picks.specs.inside.Known.{could_take, with_sender}
 use Rattle.other_picks.proofs.Reading.{sender_next}
 use Rattle.other_picks.proofs.listing.add_senders.Goals as goal
 

@@ -3,7 +3,7 @@ use Rattle.std.proofs.lemmas.Option.{slice_get-get_or}
 use Rattle.run_model.specs.declared.event.Event.{Event}
 use Rattle.other_picks.specs.declared.other.OtherPick.{OtherPick}
 use Rattle.other_picks.specs.declared.other.TheConstants.{MOST_OTHER_PICKS}
-use Rattle.other_picks.specs.Known.{IsKnown}
+use Rattle.other_picks.specs.inside.Known.{IsKnown}
 use Rattle.other_picks.specs.Others.{AreApart, others_of}
 use Rattle.other_picks.proofs.Apart.{others_apart}
 use Rattle.other_picks.proofs.Cutting.{take_whole}

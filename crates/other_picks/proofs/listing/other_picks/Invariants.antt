@@ -1,6 +1,6 @@
 use Rattle.std.proofs.Common.{◌≡◌, take}
 use Rattle.other_picks.specs.declared.other.TheConstants.{MOST_OTHER_PICKS}
-use Rattle.other_picks.specs.Known.{IsKnown}
+use Rattle.other_picks.specs.inside.Known.{IsKnown}
 use Rattle.other_picks.specs.Others.{others_of}
 use Rattle.other_picks.proofs.listing.other_picks.Given as goal
 

@@ -1,6 +1,6 @@
 use Rattle.std.proofs.Common.{◌≡◌, ◌<◌, ◌∙◌, [], ap, arith, length}
 use Rattle.std.specs.List.{slice_index_or}
-use Rattle.plan_advice.specs.Pieces.{block_ranks, kept_by, kept_in}
+use Rattle.plan_advice.specs.inside.Pieces.{block_ranks, kept_by, kept_in}
 use Rattle.plan_advice.proofs.Totals.{kept_more, same_at}
 use Rattle.plan_advice.proofs.costs.kept_by.Goals as goal
 

@@ -1,6 +1,6 @@
 use Rattle.std.proofs.Common.{◌≡◌, ◌≤◌, ◌+◌, ◌-◌, ◌*◌, ◌^◌}
 use Rattle.run_model.specs.Lists.{world}
-use Rattle.plan_advice.specs.Pieces.{block_ranks, kept_by}
+use Rattle.plan_advice.specs.inside.Pieces.{block_ranks, kept_by}
 use Rattle.plan_advice.proofs.costs.kept_by.Given as goal
 
 abbrev pub invariant-loop-rank : goal.invariant-loop-rank

@@ -1,5 +1,5 @@
 use Rattle.std.proofs.Common.{◌≡◌, ◌≤◌, take}
-use Rattle.plan_advice.specs.Pieces.{ints_in_pieces, kept_in}
+use Rattle.plan_advice.specs.inside.Pieces.{ints_in_pieces, kept_in}
 use Rattle.plan_advice.proofs.costs.kept_in.Given as goal
 
 abbrev pub invariant-loop-piece : goal.invariant-loop-piece

@@ -1,6 +1,6 @@
 use Rattle.std.proofs.Common.{◌≤◌, ◌<◌, ℕ}
 use Rattle.plan_advice.specs.Costs.{block_cost}
-use Rattle.plan_advice.specs.Ways.{IsBound}
+use Rattle.plan_advice.specs.inside.Ways.{IsBound}
 use Rattle.plan_advice.proofs.holding.are_bounds.Given as goal
 
 abbrev pub invariant-loop-before : goal.invariant-loop-before

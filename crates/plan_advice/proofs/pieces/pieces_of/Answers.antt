@@ -2,7 +2,7 @@ use Rattle.std.proofs.Common.{◌++◌, ◌∷◌, ◌∙◌, [], ap, arith, ref
 use Rattle.std.proofs.lemmas.Bool.{ne_eqb}
 use Rattle.srr_entry.specs.Entries.{entries_from, entry_of}
 use Rattle.srr_entry.proofs.Making.{noted, order_of, view_of-past}
-use Rattle.plan_advice.specs.Pieces.{ints_given}
+use Rattle.plan_advice.specs.inside.Pieces.{ints_given}
 use Rattle.plan_advice.proofs.Blocks.{rest_is}
 use Rattle.plan_advice.proofs.Keeping.{pieces_more}
 use Rattle.plan_advice.proofs.pieces.pieces_of.Goals as goal
@@ -32,7 +32,7 @@ loop-rest-preserved-in_ok-note c =
       own = more;
       known = c.in_ok-note.ensures _ own known;
       seen = step.seen;
-      pieces = pieces_more n rank own more event.call event.reply c.loop-rest.pieces c.add_reply.new.pieces refl c.loop-rest.invariant.pieces
+      pieces = pieces_more c.args.owner.now own more event.call event.reply c.loop-rest.pieces c.add_reply.new.pieces refl c.loop-rest.invariant.pieces
           (c.in_ok-add_reply.ensures.grown own known);
       few = omega (arith, front, ints, few);
     }

@@ -1,7 +1,7 @@
 use Rattle.std.proofs.Common.{◌≡◌, ◌≤◌, ◌+◌, ◌++◌, length}
 use Rattle.run_model.specs.Views.{View, view_of}
 use Rattle.srr_entry.specs.Known.{IsKnownOf}
-use Rattle.plan_advice.specs.Pieces.{ArePieces, ints_given, ints_in_pieces}
+use Rattle.plan_advice.specs.inside.Pieces.{ArePieces, ints_given, ints_in_pieces}
 use Rattle.plan_advice.proofs.pieces.pieces_of.Given as goal
 
 abbrev pub invariant-loop-rest : goal.invariant-loop-rest

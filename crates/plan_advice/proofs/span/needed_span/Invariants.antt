@@ -2,7 +2,7 @@ use Rattle.std.proofs.Common.{◌≡◌, ◌&&◌, length, ℕ}
 use Rattle.mpi_call.specs.Needs.{needs}
 use Rattle.srr_entry.specs.Entries.{all_within}
 use Rattle.srr_entry.proofs.MemberLemmas.{AreAmong}
-use Rattle.plan_advice.specs.Pieces.{HasRank, block_ranks, is_within}
+use Rattle.plan_advice.specs.inside.Pieces.{HasRank, block_ranks, is_within}
 use Rattle.plan_advice.proofs.span.needed_span.Given as goal
 
 abbrev pub invariant-loop-rest : goal.invariant-loop-rest

@@ -1,6 +1,6 @@
 use Rattle.std.proofs.Common.{◌≤◌, ◌*◌, ◌^◌}
 use Rattle.plan_advice.specs.Costs.{block_cost}
-use Rattle.plan_advice.specs.Ways.{IsCheapest}
+use Rattle.plan_advice.specs.inside.Ways.{IsCheapest}
 use Rattle.plan_advice.proofs.ways.cheapest.Given as goal
 
 abbrev pub invariant-loop-begin : goal.invariant-loop-begin

@@ -1,5 +1,5 @@
 use Rattle.plan_advice.specs.Costs.{block_cost}
-use Rattle.plan_advice.specs.Ways.{AreWays}
+use Rattle.plan_advice.specs.inside.Ways.{AreWays}
 use Rattle.plan_advice.proofs.ways.find_ways.Given as goal
 
 abbrev pub invariant-loop-before : goal.invariant-loop-before

@@ -1,5 +1,5 @@
 use Rattle.std.proofs.Common.{◌≡◌, length}
-use Rattle.rank_threads.specs.Workers.{AreWorkers}
+use Rattle.rank_threads.specs.inside.Workers.{AreWorkers}
 use Rattle.rank_threads.proofs.rounds.make_rounds.Given as goal
 
 abbrev pub invariant-loop : goal.invariant-loop

@@ -9,5 +9,5 @@ close-requires-clause-each g c = idle_each c.in_ok-lock.lock c.in_ok-seats.seats
 pub returns-clause-runs : goal.returns-clause-runs
 returns-clause-runs g c =
     let lock = c.in_ok-lock.ensures.lock in
-    runs_after g.M.Attempts.reading g.R.RankRun.standing c.in_ok-lock.lock (g.M.Told.frame c.args.value) c.args.ranks.now (g.M.Told.entries c.close.result) c.in_ok-seats.seats.items c.in_ok-seats.runs.items
+    runs_after g.M.Attempts.reading g.R.RankRun.standing c.in_ok-lock.lock (g.M.Ledger.frame c.args.value) c.args.ranks.now (g.M.Ledger.entries c.close.result) c.in_ok-seats.seats.items c.in_ok-seats.runs.items
     lock.1 (search rules) c.in_ok-seats.ensures.idle c.close.ensures.own c.in_ok-seats.ensures.runs

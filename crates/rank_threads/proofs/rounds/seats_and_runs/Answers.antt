@@ -1,6 +1,6 @@
 use Rattle.std.proofs.Common.{rules, arith, ◌≡◌, ◌++◌, ◌∷◌, [], ℕ, length, sym}
-use Rattle.turn_lock.specs.Seats.{IsIdle}
-use Rattle.rank_threads.specs.Workers.{IsWorker}
+use Rattle.turn_lock.specs.Seats.{IsIdleSeat}
+use Rattle.rank_threads.specs.inside.Workers.{IsWorker}
 use Rattle.rank_threads.proofs.Workers.{AtPlace, beside_snoc}
 use Rattle.rank_threads.proofs.Places.{each_init, each_last, each_snoc, length-last}
 use Rattle.rank_threads.proofs.rounds.seats_and_runs.Goals as goal
@@ -24,7 +24,7 @@ loop-worker-preserved g c =
     record {
       total = omega (arith, n, m, total);
       workers = each_init (AtPlace reading standing lock ranks) rest c.loop-worker.workers.items one is inv.workers;
-      idle = each_snoc (IsIdle lock) c.loop-worker.seats.items c.push.new.self.items one.seat seats_are inv.idle (p.can.ready.lock_is, p.can.ready.idle, p.number);
+      idle = each_snoc (IsIdleSeat lock) c.loop-worker.seats.items c.push.new.self.items one.seat seats_are inv.idle (p.can.ready.lock_is, p.can.ready.idle, p.number);
       beside = beside_snoc reading standing lock ranks c.loop-worker.seats.items c.push.new.self.items c.loop-worker.runs.items c.push-in-Some.new.self.items one.seat one.run seats_are runs_are inv.beside
           (rw (sym p.rank) (p.can.beside c.if-is_short.false));
     }

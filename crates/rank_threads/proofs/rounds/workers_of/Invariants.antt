@@ -1,5 +1,5 @@
 use Rattle.std.proofs.Common.{◌≡◌, ◌+◌, length, vec_len}
-use Rattle.rank_threads.specs.Workers.{AreWorkers, Each}
+use Rattle.rank_threads.specs.inside.Workers.{AreWorkers, Each}
 use Rattle.rank_threads.proofs.Workers.{FreshAt, StartsAt}
 use Rattle.rank_threads.proofs.rounds.workers_of.Given as goal
 

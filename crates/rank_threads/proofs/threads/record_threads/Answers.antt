@@ -1,7 +1,7 @@
 use Rattle.std.proofs.Common.{rules, ◌≡◌, ◌∙◌, ℕ, ap, arith, length, slice_index, sym, subst}
-use Rattle.rank_threads.specs.Readings.{machine_reading}
-use Rattle.rank_threads.specs.Numbered.{numbered}
-use Rattle.rank_threads.specs.Workers.{AreRunsAfter}
+use Rattle.rank_threads.specs.inside.Readings.{machine_reading}
+use Rattle.rank_threads.specs.inside.Numbered.{numbered}
+use Rattle.rank_threads.specs.inside.Workers.{AreRunsAfter}
 use Rattle.rank_threads.proofs.Runs.{are_runs}
 use Rattle.rank_threads.proofs.threads.record_threads.Goals as goal
 

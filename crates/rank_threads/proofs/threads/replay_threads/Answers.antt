@@ -1,9 +1,9 @@
 use Rattle.std.proofs.Common.{◌≡◌, ◌∙◌, ap, arith, sym, subst}
-use Rattle.log_bounds.proofs.FewRanks.{few_ranks}
+use Rattle.run_model.proofs.FewRanks.{few_ranks}
 use Rattle.srr_replay.proofs.RoundsLemmas.{member_of}
-use Rattle.rank_threads.specs.Readings.{replay_reading}
-use Rattle.rank_threads.specs.Numbered.{numbered, place_in}
-use Rattle.rank_threads.specs.Workers.{AreRunsAfter}
+use Rattle.rank_threads.specs.inside.Readings.{replay_reading}
+use Rattle.rank_threads.specs.inside.Numbered.{numbered, place_in}
+use Rattle.rank_threads.specs.inside.Workers.{AreRunsAfter}
 use Rattle.rank_threads.proofs.Runs.{run_all}
 use Rattle.rank_threads.proofs.Numbers.{place_at}
 use Rattle.rank_threads.proofs.threads.replay_threads.Goals as goal

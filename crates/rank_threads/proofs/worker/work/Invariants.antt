@@ -1,5 +1,5 @@
 use Rattle.std.proofs.Common.{◌≡◌, false}
-use Rattle.rank_threads.specs.Workers.{HasWorked}
+use Rattle.rank_threads.specs.inside.Workers.{HasWorked}
 use Rattle.rank_threads.proofs.worker.work.Given as goal
 
 abbrev pub invariant-loop : goal.invariant-loop

@@ -2,7 +2,7 @@ use Rattle.std.proofs.Common.{◌∙◌, ◌++◌, ◌∷◌, [], ap, refl, subs
 use Rattle.std.proofs.lemmas.List.{append-nil}
 use Rattle.run_model.specs.Views.{View}
 use Rattle.srr_entry.proofs.Making.{map_front}
-use Rattle.replay_views.specs.Got.{HasGot}
+use Rattle.replay_views.specs.inside.Got.{HasGot}
 use Rattle.replay_views.proofs.GivenLemmas.{got_more, got_none, map_none, may_give, parts_more}
 use Rattle.replay_views.proofs.given.catch_up.Goals as goal
 

@@ -1,5 +1,5 @@
 use Rattle.std.proofs.Common.{◌≡◌, ◌++◌, length, map}
-use Rattle.replay_views.specs.Got.{HasGot}
+use Rattle.replay_views.specs.inside.Got.{HasGot}
 use Rattle.run_model.specs.Views.{View}
 use Rattle.replay_views.proofs.given.catch_up.Given as goal
 

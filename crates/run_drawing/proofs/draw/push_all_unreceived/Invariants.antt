@@ -1,6 +1,6 @@
 use Rattle.std.proofs.Common.{◌≡◌, ◌++◌, flat_map, length}
 use Rattle.run_drawing.specs.Drawings.{unreceived_at}
-use Rattle.run_drawing.specs.Scenes.{basis_of}
+use Rattle.run_drawing.specs.inside.Scenes.{basis_of}
 use Rattle.run_drawing.proofs.draw.push_all_unreceived.Given as goal
 
 abbrev pub invariant-loop-rest : goal.invariant-loop-rest

@@ -4,7 +4,7 @@ use Rattle.causes.specs.Positions.{is_start_of, positions}
 use Rattle.causes.proofs.PositionLemmas.{positions-rise}
 use Rattle.msg_races.specs.declared.sends.Way.{Way}
 use Rattle.run_drawing.specs.Drawings.{receive_at}
-use Rattle.run_drawing.specs.Scenes.{ArePast, basis_of}
+use Rattle.run_drawing.specs.inside.Scenes.{ArePast, basis_of}
 use Rattle.run_drawing.proofs.ChoiceLemmas.{past_none}
 use Rattle.run_drawing.proofs.receives.push_receives.Goals as goal
 

@@ -1,7 +1,7 @@
 use Rattle.std.proofs.Common.{◌≡◌, ◌++◌, ℕ, flat_map, length}
 use Rattle.mpi_call.specs.Lists.{Rises}
 use Rattle.run_drawing.specs.Drawings.{of_starts, receive_at}
-use Rattle.run_drawing.specs.Scenes.{ArePast, basis_of}
+use Rattle.run_drawing.specs.inside.Scenes.{ArePast, basis_of}
 use Rattle.run_drawing.proofs.receives.push_receives.Given as goal
 
 abbrev pub invariant-loop-rest : goal.invariant-loop-rest

@@ -1,5 +1,5 @@
 use Rattle.std.proofs.Common.{◌≡◌, ℕ, arith, length, subst}
-use Rattle.run_drawing.specs.Scenes.{IsTraced}
+use Rattle.run_drawing.specs.inside.Scenes.{IsTraced}
 use Rattle.run_drawing.proofs.tracing.trace.Goals as goal
 
 pub returns : goal.returns

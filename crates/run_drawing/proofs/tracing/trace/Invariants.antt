@@ -1,4 +1,4 @@
-use Rattle.run_drawing.specs.Scenes.{IsTraced}
+use Rattle.run_drawing.specs.inside.Scenes.{IsTraced}
 use Rattle.run_drawing.proofs.tracing.trace.Given as goal
 
 abbrev pub invariant-loop-at : goal.invariant-loop-at

@@ -1,5 +1,5 @@
 use Rattle.std.proofs.Common.{◌≡◌, ◌++◌, length}
-use Rattle.run_states.specs.Origins.{colour_origins}
+use Rattle.run_states.specs.inside.Origins.{colour_origins}
 use Rattle.run_states.proofs.origins.add_colours.Given as goal
 
 abbrev pub invariant-loop-rest : goal.invariant-loop-rest

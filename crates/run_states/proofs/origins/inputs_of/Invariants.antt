@@ -1,7 +1,7 @@
 use Rattle.std.proofs.Common.{◌≡◌, ◌++◌, ℕ, ℤ, List, length, option_map}
 use Rattle.run_model.specs.Numbers.{entered_by_all}
 use Rattle.run_model.specs.Views.{view_of}
-use Rattle.run_states.specs.Origins.{if_entered}
+use Rattle.run_states.specs.inside.Origins.{if_entered}
 use Rattle.run_states.proofs.origins.inputs_of.Given as goal
 
 abbrev pub invariant-loop-rest : goal.invariant-loop-rest

@@ -1,5 +1,5 @@
 use Rattle.std.proofs.Common.{◌≡◌, length}
-use Rattle.srr_log.specs.EntryReading.{all_items_in}
+use Rattle.srr_log.specs.inside.EntryReading.{all_items_in}
 use Rattle.srr_log.proofs.ListLaws.{onto}
 use Rattle.srr_log.proofs.entry_line.all_items.Given as goal
 

@@ -1,5 +1,5 @@
 use Rattle.std.proofs.lemmas.Result.{err_from_is_err_and}
-use Rattle.srr_log.specs.Pieces.{int_in}
+use Rattle.srr_log.specs.inside.Pieces.{int_in}
 use Rattle.srr_log.proofs.ListLaws.{list_onward, list_shorter, list_stops, list_fails, list_ends}
 use Rattle.srr_log.proofs.lists.ints.Goals as goal
 

@@ -1,5 +1,5 @@
 use Rattle.std.proofs.Common.{◌≡◌, length}
-use Rattle.srr_log.specs.EntryReading.{ranks_in}
+use Rattle.srr_log.specs.inside.EntryReading.{ranks_in}
 use Rattle.srr_log.proofs.ListLaws.{onto}
 use Rattle.srr_log.proofs.lists.ranks.Given as goal
 

@@ -1,6 +1,6 @@
 use Rattle.std.proofs.Common.{◌≡◌, ◌+◌, ℕ, List, length, map}
 use Rattle.srr_log.specs.Parts.{entry_part}
-use Rattle.srr_log.specs.Reading.{entries_left}
+use Rattle.srr_log.specs.inside.Reading.{entries_left}
 use Rattle.srr_log.proofs.StateLaws.{AreRead}
 use Rattle.srr_log.proofs.read_log.entries.Given as goal
 

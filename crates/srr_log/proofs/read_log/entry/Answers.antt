@@ -1,8 +1,8 @@
 use Rattle.std.proofs.Common.{[], ◌∷◌, refl, arith}
 use Rattle.srr_log.specs.declared.fault.LogWhy.TheVariants.{BadEntry}
 use Rattle.srr_log.specs.Parts.{entry_part}
-use Rattle.srr_log.specs.LineReading.{entry_line_in}
-use Rattle.srr_log.specs.Reading.{at_entry}
+use Rattle.srr_log.specs.inside.LineReading.{entry_line_in}
+use Rattle.srr_log.specs.inside.Reading.{at_entry}
 use Rattle.srr_log.proofs.StateLaws.{reads_line, reads_unread}
 use Rattle.srr_log.proofs.read_log.entry.Goals as goal
 

@@ -1,8 +1,8 @@
 use Rattle.std.proofs.Common.{[], ◌∷◌, refl, arith}
 use Rattle.srr_log.specs.declared.fault.LogWhy.TheVariants.{BadGroup}
 use Rattle.srr_log.specs.Parts.{group_line}
-use Rattle.srr_log.specs.LineReading.{group_line_in}
-use Rattle.srr_log.specs.Reading.{at_group}
+use Rattle.srr_log.specs.inside.LineReading.{group_line_in}
+use Rattle.srr_log.specs.inside.Reading.{at_group}
 use Rattle.srr_log.proofs.StateLaws.{reads_line, reads_unread}
 use Rattle.srr_log.proofs.read_log.group.Goals as goal
 

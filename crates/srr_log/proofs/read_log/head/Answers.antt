@@ -1,7 +1,7 @@
 use Rattle.std.proofs.Common.{◌≢◌, [], ◌∷◌, refl, rules}
 use Rattle.std.specs.Prelude.{codes}
 use Rattle.srr_log.specs.Parts.{head_line}
-use Rattle.srr_log.specs.Reading.{at_head}
+use Rattle.srr_log.specs.inside.Reading.{at_head}
 use Rattle.srr_log.proofs.StateLaws.{reads_bad, other_head}
 use Rattle.srr_log.proofs.read_log.head.Goals as goal
 

@@ -2,7 +2,7 @@ use Rattle.std.proofs.Common.{◌≡◌, ◌+◌, [], ◌∷◌, ◌++◌, lengt
 use Rattle.std.proofs.lemmas.Result.{err_from_is_err_and}
 use Rattle.srr_entry.specs.declared.entry.Entry.{Entry}
 use Rattle.srr_log.specs.Parts.{lists_parts}
-use Rattle.srr_log.specs.Reading.{at_list}
+use Rattle.srr_log.specs.inside.Reading.{at_list}
 use Rattle.srr_log.proofs.StateLaws.{AreRead, no_lists_read, lists_onward, lists_stop}
 use Rattle.srr_log.proofs.read_log.lists.Goals as goal
 

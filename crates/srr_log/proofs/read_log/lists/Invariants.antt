@@ -1,6 +1,6 @@
 use Rattle.std.proofs.Common.{◌≡◌, [], length}
 use Rattle.srr_log.specs.Parts.{lists_parts}
-use Rattle.srr_log.specs.Reading.{at_list}
+use Rattle.srr_log.specs.inside.Reading.{at_list}
 use Rattle.srr_log.proofs.StateLaws.{AreRead}
 use Rattle.srr_log.proofs.read_log.lists.Given as goal
 

@@ -1,7 +1,7 @@
 use Rattle.std.proofs.Common.{[], ◌∷◌, refl, arith}
 use Rattle.std.proofs.lemmas.Result.{err_from_is_err_and}
 use Rattle.srr_log.specs.Parts.{end_line, lists_parts}
-use Rattle.srr_log.specs.Reading.{at_list}
+use Rattle.srr_log.specs.inside.Reading.{at_list}
 use Rattle.srr_log.proofs.ReadLaws.{lists_stopped, end_stopped, end_read, reads_extra, read_all}
 use Rattle.srr_log.proofs.read_log.lists_and_end.Goals as goal
 

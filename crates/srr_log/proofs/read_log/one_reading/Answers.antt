@@ -1,5 +1,4 @@
 use Rattle.srr_log.proofs.FaultLaws.{no_beginning, one_log, one_first_fault, fault_or_log}
-use Rattle.srr_log.proofs.LogLaws.{log_text-is}
 use Rattle.srr_log.proofs.LogOrFault.{log_or_fault}
 use Rattle.srr_log.proofs.read_log.one_reading.Goals as goal
 
@@ -13,6 +12,3 @@ returns-clause-logs c = record {
   never_both = fault_or_log;
   always_one = log_or_fault;
 }
-
-pub returns-clause-parts : goal.returns-clause-parts
-returns-clause-parts c = log_text-is

@@ -1,6 +1,6 @@
 use Rattle.std.proofs.Common.{[], ◌∷◌, refl, sym, arith}
 use Rattle.srr_log.specs.Parts.{rank_line}
-use Rattle.srr_log.specs.Reading.{at_list}
+use Rattle.srr_log.specs.inside.Reading.{at_list}
 use Rattle.srr_log.proofs.StateLaws.{reads_line, reads_bad}
 use Rattle.srr_log.proofs.read_log.rank.Goals as goal
 

@@ -1,6 +1,6 @@
 use Rattle.std.proofs.Common.{[], ◌∷◌, refl, sym}
 use Rattle.srr_log.specs.Parts.{ranks_line}
-use Rattle.srr_log.specs.Reading.{at_ranks}
+use Rattle.srr_log.specs.inside.Reading.{at_ranks}
 use Rattle.srr_log.proofs.StateLaws.{reads_line, reads_bad}
 use Rattle.srr_log.proofs.read_log.ranks.Goals as goal
 

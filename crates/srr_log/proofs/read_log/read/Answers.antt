@@ -3,7 +3,7 @@ use Rattle.std.specs.Prelude.{Err}
 use Rattle.std.proofs.lemmas.Result.{err_from_is_err_and}
 use Rattle.srr_entry.specs.declared.entry.Entry.{Entry}
 use Rattle.srr_log.specs.Parts.{head_line, ranks_line, group_line, size_line, program_bytes, end_line, lists_parts, log_parts}
-use Rattle.srr_log.specs.Reading.{Reads, at_head, at_list}
+use Rattle.srr_log.specs.inside.Reading.{Reads, at_head, at_list}
 use Rattle.srr_log.proofs.ReadLaws.{read_ranks, read_group, read_program, read_lists}
 use Rattle.srr_log.proofs.StateLaws.{AreRead, read_then, reads_behind}
 use Rattle.srr_log.proofs.read_log.read.Goals as goal

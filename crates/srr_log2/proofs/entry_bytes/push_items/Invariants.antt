@@ -1,6 +1,6 @@
 use Rattle.std.proofs.Common.{◌≡◌, ◌++◌, length}
 use Rattle.srr_log2.specs.EntryBytes.{items_bytes}
-use Rattle.srr_log2.specs.Lengths.{AreShortItems}
+use Rattle.srr_log2.specs.inside.Lengths.{AreShortItems}
 use Rattle.srr_log2.proofs.entry_bytes.push_items.Given as goal
 
 abbrev pub invariant-loop-rest : goal.invariant-loop-rest

@@ -1,6 +1,6 @@
 use Rattle.std.proofs.Common.{◌≡◌, ◌++◌, length, false}
 use Rattle.srr_log2.specs.EntryBytes.{records_bytes}
-use Rattle.srr_log2.specs.Lengths.{IsShortList}
+use Rattle.srr_log2.specs.inside.Lengths.{IsShortList}
 use Rattle.srr_log2.proofs.entry_bytes.push_records.Given as goal
 
 abbrev pub invariant-loop-rest : goal.invariant-loop-rest

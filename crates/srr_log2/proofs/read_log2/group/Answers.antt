@@ -1,13 +1,13 @@
 use Rattle.std.proofs.Common.{rules, ◌<◌, ◌^◌}
 use Rattle.std.proofs.lemmas.Result.{err_from_is_err_and}
-use Rattle.srr_log2.specs.Reading.{group_in}
+use Rattle.srr_log2.specs.Reading.{coded_group}
 use Rattle.srr_log2.proofs.TopLaws.{group_found, group_other, group_short, field_stop}
 use Rattle.srr_log2.proofs.read_log2.group.Goals as goal
 
 pub returns-in_err-bytes : goal.returns-in_err-bytes
 returns-in_err-bytes c =
     let p = err_from_is_err_and c.from_residual.result c.from_residual.ensures.1 in
-    rw (p.1, p.2) (field_stop 8 (group_in c.args.ranks c.args.cursor.now) c.args.cursor.now c.field.new.cursor c.field.new.cursor c.in_err-bytes.field-0.0 c.in_err-bytes.ensures (group_short c.args.ranks c.args.cursor.now))
+    rw (p.1, p.2) (field_stop 8 (coded_group c.args.ranks c.args.cursor.now) c.args.cursor.now c.field.new.cursor c.field.new.cursor c.in_err-bytes.field-0.0 c.in_err-bytes.ensures (group_short c.args.ranks c.args.cursor.now))
 
 pub returns-then-not-are_bits : goal.returns-then-not-are_bits
 returns-then-not-are_bits c =

@@ -1,6 +1,6 @@
 use Rattle.std.proofs.Common.{◌≡◌, ◌++◌, length}
 use Rattle.srr_log2.specs.LogBytes.{lists_bytes}
-use Rattle.srr_log2.specs.Lengths.{AreShortLists}
+use Rattle.srr_log2.specs.inside.Lengths.{AreShortLists}
 use Rattle.srr_log2.proofs.write_log2.push_lists.Given as goal
 
 abbrev pub invariant-loop-rest : goal.invariant-loop-rest

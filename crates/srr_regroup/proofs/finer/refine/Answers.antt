@@ -2,7 +2,7 @@ use Rattle.std.proofs.Common.{◌∙◌, List, ap, subst, sym, ℕ}
 use Rattle.run_model.specs.declared.event.Event.{Event}
 use Rattle.srr_entry.specs.Entries.{log_of}
 use Rattle.srr_entry.proofs.Making.{ifok_map}
-use Rattle.srr_text.specs.Bounds.{IsInBounds}
+use Rattle.srr_log.specs.Bounds.{IsInBounds}
 use Rattle.log_bounds.specs.RunBounds.{RepliesFit32}
 use Rattle.srr_regroup.proofs.LogBounds.{refined_bound}
 use Rattle.srr_regroup.proofs.Made.{part_views}

@@ -1,6 +1,6 @@
 use Rattle.std.proofs.Common.{◌<◌, ◌∙◌, ℕ, List, [], ◌∷◌, ◌++◌, arith, rules, subst, sym}
 use Rattle.std.proofs.lemmas.Result.{on_ok_weaker}
-use Rattle.view_tables.specs.declared.start_table.Start.{Start}
+use Rattle.view_tables.specs.declared.start_table.StartRow.{StartRow}
 use Rattle.view_tables.specs.EnterTable.{IsNotedFor}
 use Rattle.view_tables.specs.StartTable.{IsStartTable}
 use Rattle.view_tables.proofs.EnterTableLemmas.{IsEnterTable-after, IsEnterTable-kept}
@@ -9,7 +9,7 @@ use Rattle.srr_replay.proofs.note.note_start.Goals as goal
 
 pub returns-in_default-clause-ok : goal.returns-in_default-clause-ok
 returns-in_default-clause-ok c =
-    let T : List (List Start) → Type 0 = λ table. IsStartTable c.args.ranks (c.args.events.now.events ++ c.args.event.now ∷ []) table in
+    let T : List (List StartRow) → Type 0 = λ table. IsStartTable c.args.ranks (c.args.events.now.events ++ c.args.event.now ∷ []) table in
     on_ok_weaker c.note.result
     (λ is. (
       subst T (sym is) (rw c.len-at.ensures (IsStartTable-after c.args.ranks c.args.events.now.events c.args.event.now c.args.starts.now c.requires.rank c.requires.takes c.requires.starts)),

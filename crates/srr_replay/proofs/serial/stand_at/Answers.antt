@@ -1,5 +1,5 @@
 use Rattle.std.proofs.Common.{◌∙◌, refl, sym}
-use Rattle.replay_model.specs.Replays.{event_of}
+use Rattle.replay_model.specs.Replays.{replied_event}
 use Rattle.srr_replay.proofs.serial.stand_at.Goals as goal
 
 pub variables-requires-clause-live : goal.variables-requires-clause-live
@@ -9,7 +9,7 @@ variables-requires-clause-live g c =
 
 pub unreachable-requires : goal.unreachable-requires
 unreachable-requires g c =
-    c.requires.rests (event_of c.args.rank c.args.call.now c.in-Replied.field-0) refl (record {
+    c.requires.rests (replied_event c.args.rank c.args.call.now c.in-Replied.field-0) refl (record {
       member = c.requires.member;
       call = c.requires.next;
       reply = sym c.in_ok-attempt.ensures.answer ∙ c.in-Replied.is;

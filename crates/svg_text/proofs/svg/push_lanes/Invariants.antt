@@ -1,5 +1,5 @@
 use Rattle.std.proofs.Common.{◌≡◌, ◌++◌}
-use Rattle.msg_races.specs.Listing.{joined as for_ranks}
+use Rattle.msg_races.specs.Listing.{lists_below as for_ranks}
 use Rattle.svg_text.specs.Shapes.{lane_text}
 use Rattle.svg_text.proofs.svg.push_lanes.Given as goal
 

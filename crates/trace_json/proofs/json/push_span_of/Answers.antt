@@ -1,6 +1,6 @@
 use Rattle.std.proofs.Common.{◌≡◌, ◌++◌, ◌∙◌, ℕ, List, ap}
 use Rattle.std.specs.Prelude.{codes}
-use Rattle.trace_json.specs.JsonTexts.{args_text, name_text, place_text}
+use Rattle.trace_json.specs.JsonTexts.{args_text, event_name_text, place_text}
 use Rattle.trace_json.proofs.SpanLemmas.{five_texts}
 use Rattle.trace_json.proofs.json.push_span_of.Goals as goal
 
@@ -8,7 +8,7 @@ pub returns : goal.returns
 returns c =
     let o : List ℕ = c.args.out.now in
     let a : List ℕ = codes ",\n{\"name\":\"" in
-    let n : List ℕ = name_text c.args.call.now c.args.reply.now in
+    let n : List ℕ = event_name_text c.args.call.now c.args.reply.now in
     let b : List ℕ = codes "\",\"ph\":\"X\",\"dur\":1," in
     let p : List ℕ = place_text c.args.groups.now c.args.mark.now.rank c.args.mark.now.column in
     let g : List ℕ = args_text c.args.mark.now.number c.args.call.now c.args.reply.now in

@@ -1,6 +1,6 @@
 use Rattle.std.proofs.Common.{◌≡◌, ◌++◌, ◌∷◌, [], sym, ap, ◌∙◌, append_assoc, length, arith}
 use Rattle.turn_lock.specs.Rule.{account}
-use Rattle.turn_lock.specs.Ends.{accounts_at}
+use Rattle.turn_lock.specs.inside.Ends.{accounts_at}
 use Rattle.turn_lock.proofs.Seats.{accounts_at-append, account_moves, idle_front, idle_last}
 use Rattle.turn_lock.proofs.ends.joined.Goals as goal
 

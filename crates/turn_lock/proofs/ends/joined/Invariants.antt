@@ -1,5 +1,5 @@
 use Rattle.std.proofs.Common.{◌≡◌, ◌<◌, ◌++◌, length, All, vec_len}
-use Rattle.turn_lock.specs.Ends.{accounts_at, IsIdleAt}
+use Rattle.turn_lock.specs.inside.Ends.{accounts_at, IsIdleAt}
 use Rattle.turn_lock.specs.declared.view.Stage.TheVariants.{Idle}
 use Rattle.turn_lock.proofs.ends.joined.Given as goal
 

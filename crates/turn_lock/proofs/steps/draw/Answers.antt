@@ -6,5 +6,5 @@ pub fetch_add-requires : goal.fetch_add-requires
 fetch_add-requires g c = (
   search rules,
   search rules,
-  draws_at g.T.Told.entries g.T.Told.frame _ _ _ _ c.args.token.now.me c.requires.idle.0 c.requires.idle.1 c.requires.idle.2,
+  draws_at g.T.Ledger.entries g.T.Ledger.frame _ _ _ _ c.args.token.now.me c.requires.idle.0 c.requires.idle.1 c.requires.idle.2,
 )

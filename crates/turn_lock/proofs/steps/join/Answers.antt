@@ -8,5 +8,5 @@ join_seat-requires g c = (
   search rules,
   search rules,
   search rules,
-  joins g.T.Told.entries g.T.Told.frame _ _ _ _ c.args.token.now.me.0 c.args.other.me.0 c.requires.idle.0 c.requires.other.1 c.requires.idle.1,
+  joins g.T.Ledger.entries g.T.Ledger.frame _ _ _ _ c.args.token.now.me.0 c.args.other.me.0 c.requires.idle.0 c.requires.other.1 c.requires.idle.1,
 )

@@ -8,5 +8,5 @@ split_seat-requires g c =
     let k = c.requires.fresh.0 in let n = c.requires.fresh.1 in let e : n + 1 ≡ suc n = omega arith in (
       search rules,
       search rules,
-      splits g.T.Told.entries g.T.Told.frame _ _ _ k n c.args.token.now.me.0 c.requires.idle (c.requires.fresh.2 ∙ ap (λ (m : _). fresh_accounts k m) e),
+      splits g.T.Ledger.entries g.T.Ledger.frame _ _ _ k n c.args.token.now.me.0 c.requires.idle (c.requires.fresh.2 ∙ ap (λ (m : _). fresh_accounts k m) e),
     )

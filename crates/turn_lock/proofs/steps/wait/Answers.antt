@@ -9,7 +9,7 @@ load-served-requires g c =
     let waits : c.loop.token.me.0.stage ≡ Waiting c.requires.waits.0 = ap (λ m. m.0.stage) c.loop.invariant.1 ∙ c.requires.waits.2 in (
       search rules,
       search rules,
-      reads_at g.T.Told.entries g.T.Told.frame _ _ _ _ c.requires.waits.0 c.loop.token.me waits (ap (λ m. m.1) c.loop.invariant.1 ∙ c.requires.waits.3),
+      reads_at g.T.Ledger.entries g.T.Ledger.frame _ _ _ _ c.requires.waits.0 c.loop.token.me waits (ap (λ m. m.1) c.loop.invariant.1 ∙ c.requires.waits.3),
     )
 
 pub exchange-requires : goal.exchange-requires

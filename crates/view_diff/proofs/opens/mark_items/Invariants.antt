@@ -1,6 +1,6 @@
 use Rattle.std.proofs.Common.{◌≡◌, length}
 use Rattle.run_model.specs.Views.{items_taken}
-use Rattle.view_diff.specs.Marking.{with_marks}
+use Rattle.view_diff.specs.inside.Marking.{with_marks}
 use Rattle.view_diff.proofs.opens.mark_items.Given as goal
 
 abbrev pub invariant-loop-rest : goal.invariant-loop-rest

@@ -1,5 +1,5 @@
 use Rattle.std.proofs.Common.{◌≡◌, ◌++◌, ◌+◌, ◌≤◌, length, map}
-use Rattle.view_diff.specs.Marking.{unmarked_from}
+use Rattle.view_diff.specs.inside.Marking.{unmarked_from}
 use Rattle.view_diff.proofs.opens.unmarked.Given as goal
 
 abbrev pub invariant-loop-rest : goal.invariant-loop-rest

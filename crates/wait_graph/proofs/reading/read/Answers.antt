@@ -1,7 +1,7 @@
 use Rattle.std.proofs.Common.{◌≡◌, ◌<◌, ◌∙◌, ◌++◌, ◌∷◌, [], false, refl, subst, sym}
 use Rattle.run_model.specs.declared.event.Event.{Event}
+use Rattle.run_model.specs.Due.{stops}
 use Rattle.wait_graph.specs.Register.{IsRegister}
-use Rattle.wait_graph.specs.Going.{stops}
 use Rattle.wait_graph.proofs.ReadLemmas.{read_end, read_first, read_more}
 use Rattle.wait_graph.proofs.reading.read.Goals as goal
 

@@ -1,7 +1,7 @@
 use Rattle.std.proofs.Common.{◌∙◌, List, None, ap, arith, get_or, subst, sym}
 use Rattle.run_model.specs.declared.event.Event.{Event}
 use Rattle.wait_graph.specs.Graph.{cycles_in}
-use Rattle.wait_graph.specs.Reading.{IsRead}
+use Rattle.wait_graph.specs.Reading.{IsRunRead}
 use Rattle.wait_graph.proofs.FoundLemmas.{all_found, below_all, below_here, first_found, graph_is, one_found}
 use Rattle.wait_graph.proofs.stuck.graph.Goals as goal
 
@@ -19,8 +19,8 @@ find-requires c =
 
 pub loop-rest-preserved : goal.loop-rest-preserved
 loop-rest-preserved c =
-    let R : List Event → Type 0 = λ l. IsRead c.args.n l c.in_ok-run.run' in
-    let read : IsRead c.args.n c.args.history.now.events c.in_ok-run.run' = subst R c.as_slice.ensures.events c.in_ok-run.ensures in
+    let R : List Event → Type 0 = λ l. IsRunRead c.args.n l c.in_ok-run.run' in
+    let read : IsRunRead c.args.n c.args.history.now.events c.in_ok-run.run' = subst R c.as_slice.ensures.events c.in_ok-run.ensures in
     let all = c.as_slice-in-len1-up.ensures ∙ c.in_ok-ranks.ensures in
     record {
       below = (below_here c.args.n c.loop-rest.rest.now 0 c.loop-rest.invariant.below c.in-len1-up.len_at_least).1;

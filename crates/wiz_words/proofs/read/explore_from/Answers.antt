@@ -4,7 +4,7 @@ use Rattle.wiz_words.specs.declared.command.Command.{Command}
 use Rattle.wiz_words.specs.declared.command.Command.TheVariants.{Explore}
 use Rattle.wiz_words.specs.declared.command.Verb.TheVariants as verb
 use Rattle.wiz_words.specs.Limits.{fewest_polls, fewest_states, most_polls, most_states, usual_polls, usual_states}
-use Rattle.wiz_words.specs.Values.{IsNumberOr, given_by}
+use Rattle.wiz_words.specs.Values.{IsNumberOr, rows_found}
 use Rattle.wiz_words.specs.Words.{AreWordsOf, verb_of}
 use Rattle.wiz_words.proofs.read.explore_from.Goals as goal
 
@@ -21,7 +21,7 @@ no_polls given none (Explore run prefix most polls) same says = none polls says.
 no_polls given none command same says = absurd (cc)
 
 pub returns-in_err-most : goal.returns-in_err-most
-returns-in_err-most c = rw c.from_residual-in_err-most.ensures (no_states (given_by c.args.matches.now) c.in_err-most.ensures)
+returns-in_err-most c = rw c.from_residual-in_err-most.ensures (no_states (rows_found c.args.matches.now) c.in_err-most.ensures)
 
 pub returns-in_err-polls : goal.returns-in_err-polls
-returns-in_err-polls c = rw c.from_residual-in_err-polls.ensures (no_polls (given_by c.args.matches.now) c.in_err-polls.ensures)
+returns-in_err-polls c = rw c.from_residual-in_err-polls.ensures (no_polls (rows_found c.args.matches.now) c.in_err-polls.ensures)

@@ -1,12 +1,12 @@
 use Rattle.std.proofs.Common.{◌≡◌, vec_len, reverse}
 use Rattle.c_check_expr.specs.Scopes.{closed}
-use Rattle.c_check_expr.specs.ScopeView.{IsKept, entries_view}
+use Rattle.c_check_expr.specs.inside.ScopeView.{IsScopeTable, entries_view}
 use Rattle.c_check_expr.proofs.declarations.Declarations.close.Given as goal
 
 abbrev pub invariant-loop-placed : goal.invariant-loop-placed
 invariant-loop-placed l = record {
   entries : closed (entries_view l.self-inside.placed.items) ≡ closed (entries_view l.initial.self-inside.placed.items);
-  kept : IsKept (reverse l.self-inside.placed.items) l.self-inside.innermost l.self-inside.variables l.self-inside.depth;
+  kept : IsScopeTable (reverse l.self-inside.placed.items) l.self-inside.innermost l.self-inside.variables l.self-inside.depth;
 }
 
 abbrev pub decreases-loop-placed : goal.decreases-loop-placed

@@ -1,5 +1,5 @@
 use Rattle.std.proofs.Common.{◌∙◌, Some, None}
-use Rattle.c_check_expr.specs.ScopeView.{entries_view}
+use Rattle.c_check_expr.specs.inside.ScopeView.{entries_view}
 use Rattle.c_check_expr.proofs.Hiding.{in_block_by}
 use Rattle.c_check_expr.proofs.declarations.Declarations.is_in_block.Goals as goal
 

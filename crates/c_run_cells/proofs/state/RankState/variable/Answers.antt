@@ -1,6 +1,6 @@
 use Rattle.std.proofs.Common.{◌∙◌, None, Some, ap, map, refl, sym}
 use Rattle.c_program.specs.State.{State}
-use Rattle.c_run_cells.specs.Named.{cells_named}
+use Rattle.c_run_cells.specs.inside.Named.{cells_named}
 use Rattle.c_run_cells.specs.SlotView.{slot_view}
 use Rattle.c_run_cells.proofs.NamedLaws.{values_are}
 use Rattle.c_run_cells.proofs.state.RankState.variable.Goals as goal

@@ -1,5 +1,5 @@
 use Rattle.std.proofs.Common.{◌≡◌, ℕ, List, length}
-use Rattle.causes.specs.Joins.{IsJoinOfAll}
+use Rattle.causes.specs.inside.Joins.{IsJoinOfAll}
 use Rattle.causes.proofs.clock.Clock.join_all.Given as goal
 
 abbrev pub invariant-loop-rest : goal.invariant-loop-rest

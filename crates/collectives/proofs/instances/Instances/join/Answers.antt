@@ -3,7 +3,7 @@ use Rattle.mpi_call.specs.Calls.{is_enter}
 use Rattle.mpi_call.specs.declared.call.Call.{Call}
 use Rattle.collectives.proofs.InstanceLemmas.{count_kept, kept_after_enter, next_within}
 use Rattle.collectives.specs.Entrants.{first_against}
-use Rattle.collectives.specs.Instances.{enters_by, instance_at}
+use Rattle.collectives.specs.Instances.{enters_by, instance_enters}
 use Rattle.collectives.specs.declared.entrants.Entrant.{Entrant}
 use Rattle.collectives.proofs.instances.Instances.join.Goals as goal
 
@@ -24,5 +24,5 @@ invariant_of-self-2 c =
     kept_after_enter c.self.inside.lists.items c.add.new.lists.items c.self.inside.counts.items c.reserve.new.counts.items c.enters_by-instance.result
     (record { rank = c.args.rank; call = c.in_ok-call.call }) c.self.invariant c.in_ok-add.ensures.ok count within c.reserve.ensures.same
     (ap is_enter c.in_ok-call.ensures ∙ c.requires.call)
-    (sym c.requires.agrees ∙ (ap₂ (λ (lists : List (List Entrant)) (call : Call). first_against (instance_at lists (enters_by c.args.self.now c.args.rank)) call) (sym c.self.view_is) (sym c.in_ok-call.ensures)
-    ∙ ap (λ (n : ℕ). first_against (instance_at c.self.inside.lists.items n) c.in_ok-call.call) (sym c.enters_by-instance.ensures.value)))
+    (sym c.requires.agrees ∙ (ap₂ (λ (lists : List (List Entrant)) (call : Call). first_against (instance_enters lists (enters_by c.args.self.now c.args.rank)) call) (sym c.self.view_is) (sym c.in_ok-call.ensures)
+    ∙ ap (λ (n : ℕ). first_against (instance_enters c.self.inside.lists.items n) c.in_ok-call.call) (sym c.enters_by-instance.ensures.value)))

@@ -2,7 +2,7 @@ use Rattle.std.proofs.Common.{◌≡◌, ◌∙◌, ◌≤◌, ap, arith, get_or
 use Rattle.std.proofs.lemmas.List.{get_or_default}
 use Rattle.comms.proofs.CommsLemmas.{numbers_fit, small_split}
 use Rattle.comms.specs.Colours.{colours_of}
-use Rattle.comms.specs.Communicators.{AreSmall, Communicators}
+use Rattle.comms.specs.Communicators.{HaveFewMembers, Communicators}
 use Rattle.comms.proofs.communicators.Comms.split.Goals as goal
 
 pub numbers_for-requires-clause-fits : goal.numbers_for-requires-clause-fits
@@ -23,4 +23,4 @@ add-requires c =
     c.as_slice-3.ensures ∙ (c.index-members.ensures ∙ get_or_default c.self.inside.members.items c.args.comm c.index-members.result.now [] within) in
     let same : length c.as_slice-3.result.now ≡ length (get_or c.self.inside.members.items c.args.comm []) = ap length members_are in
     let few : length c.as_slice-3.result.now ≤ 255 = omega (arith, c.self.invariant.at c.args.comm) in
-    record { small = subst AreSmall (sym c.in_ok-made.ensures) (small_split c.deref-2.result.now c.as_slice-3.result.now c.as_slice-4.result.now few) }
+    record { small = subst HaveFewMembers (sym c.in_ok-made.ensures) (small_split c.deref-2.result.now c.as_slice-3.result.now c.as_slice-4.result.now few) }

@@ -1,5 +1,5 @@
 use Rattle.std.proofs.Common.{◌≡◌, length}
-use Rattle.explore.specs.RaceFlags.{race_in}
+use Rattle.explore.specs.inside.RaceFlags.{race_in}
 use Rattle.explore.proofs.races.Races.race_in.Given as goal
 
 abbrev pub invariant-loop-rest : goal.invariant-loop-rest

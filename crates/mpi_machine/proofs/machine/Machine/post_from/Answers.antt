@@ -5,6 +5,7 @@ use Rattle.requests.specs.Histories.{KnowsPosted}
 use Rattle.mpi_machine.proofs.Growing.{event_with}
 use Rattle.mpi_machine.proofs.Moving.{live_in}
 use Rattle.mpi_machine.proofs.Picking.{picked_keeps, post_event, post_picks}
+use Rattle.run_model.specs.Views.{moment_at}
 use Rattle.mpi_machine.proofs.machine.Machine.post_from.Goals as goal
 
 pub append-requires-clause-live : goal.append-requires-clause-live
@@ -24,7 +25,7 @@ invariant_of-self-2 g c =
     let asked = rw (← c.self.view_is) at c.requires.asked in
     let free = rw (← c.self.view_is) at c.requires.bound in
     let at : c.len-at.result ≡ length events = c.len-at.ensures ∙ ap (λ (l : List Event). length l) (c.history.ensures ∙ c.reserve.ensures.events) in
-    let F : Option ℕ → Type 0 = λ m. KnowsPosted n events c.args.rank c.args.call c.args.sender m c.post_from.new.self in
+    let F : Option ℕ → Type 0 = λ m. KnowsPosted (moment_at n events c.args.rank) c.args.call c.args.sender m c.post_from.new.self in
     let posted : F (Some c.in-Some.mate) = subst F c.in-Some.is (c.in_ok-mate.ensures.knows n events c.self.invariant.knows at) in
     let written = c.pick_of_sender-pick.result in
     let is = rw (← c.self.view_is) at c.pick_of_sender-pick.ensures in

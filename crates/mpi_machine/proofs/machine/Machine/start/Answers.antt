@@ -8,6 +8,7 @@ use Rattle.mpi_machine.proofs.Answering.{has_reply, mismatch_answered, start_ans
 use Rattle.mpi_machine.proofs.Entering.{asked_form, may_join}
 use Rattle.mpi_machine.proofs.Growing.{event_with}
 use Rattle.mpi_machine.proofs.Moving.{after_reply, live_in, start_event, start_keeps, turn_is}
+use Rattle.run_model.specs.Views.{moment_at}
 use Rattle.mpi_machine.proofs.machine.Machine.start.Goals as goal
 
 pub start-requires-clause-position : goal.start-requires-clause-position
@@ -45,7 +46,7 @@ invariant_of-self-in-Made g c =
     let at : c.len-at.result ≡ length c.self.inside.course.events =
     c.len-at.ensures ∙ ap (λ (l : List Event). length l) (c.history.ensures ∙ c.reserve.ensures.events) in
     let F : Started → Type 0 = λ s. KnowsStarted c.self.inside.course.ranks c.self.inside.course.events c.args.rank c.args.call s c.start.new.self in
-    let made : KnowsStart c.self.inside.course.ranks c.self.inside.course.events c.args.rank c.args.call c.in-Made.start c.in-Made.mate c.start.new.self =
+    let made : KnowsStart (moment_at c.self.inside.course.ranks c.self.inside.course.events c.args.rank) c.args.call c.in-Made.start c.in-Made.mate c.start.new.self =
     subst F c.in-Made.is (c.in_ok-mate.ensures.knows c.self.inside.course.ranks c.self.inside.course.events c.self.invariant.knows at form) in
     let has = has_reply (g.P.Program.next c.self.inside.program.now) c.self.inside.course.ranks c.self.inside.course.events c.self.inside.course.kept
     c.args.rank c.args.call Done asked (start_answered c.self.inside.course.ranks c.self.inside.course.events c.args.rank c.args.call free c.requires.kind made.agrees) in
@@ -65,7 +66,7 @@ returns-in-Made-clause-after g c =
     let at : c.len-at.result ≡ length c.self.inside.course.events =
     c.len-at.ensures ∙ ap (λ (l : List Event). length l) (c.history.ensures ∙ c.reserve.ensures.events) in
     let F : Started → Type 0 = λ s. KnowsStarted c.self.inside.course.ranks c.self.inside.course.events c.args.rank c.args.call s c.start.new.self in
-    let made : KnowsStart c.self.inside.course.ranks c.self.inside.course.events c.args.rank c.args.call c.in-Made.start c.in-Made.mate c.start.new.self =
+    let made : KnowsStart (moment_at c.self.inside.course.ranks c.self.inside.course.events c.args.rank) c.args.call c.in-Made.start c.in-Made.mate c.start.new.self =
     subst F c.in-Made.is (c.in_ok-mate.ensures.knows c.self.inside.course.ranks c.self.inside.course.events c.self.invariant.knows at form) in
     let is = (start_answered c.self.inside.course.ranks c.self.inside.course.events c.args.rank c.args.call free c.requires.kind made.agrees).reply_is in
     rw (← c.self.view_is, c.append.ensures.ranks ∙ c.reserve.ensures.ranks, c.append.ensures.events, c.append.ensures.kept, c.reserve.ensures.events, c.reserve.ensures.kept) (
@@ -83,7 +84,7 @@ returns-in-Made-clause-answer g c =
     let at : c.len-at.result ≡ length c.self.inside.course.events =
     c.len-at.ensures ∙ ap (λ (l : List Event). length l) (c.history.ensures ∙ c.reserve.ensures.events) in
     let F : Started → Type 0 = λ s. KnowsStarted c.self.inside.course.ranks c.self.inside.course.events c.args.rank c.args.call s c.start.new.self in
-    let made : KnowsStart c.self.inside.course.ranks c.self.inside.course.events c.args.rank c.args.call c.in-Made.start c.in-Made.mate c.start.new.self =
+    let made : KnowsStart (moment_at c.self.inside.course.ranks c.self.inside.course.events c.args.rank) c.args.call c.in-Made.start c.in-Made.mate c.start.new.self =
     subst F c.in-Made.is (c.in_ok-mate.ensures.knows c.self.inside.course.ranks c.self.inside.course.events c.self.invariant.knows at form) in
     let has = has_reply (g.P.Program.next c.self.inside.program.now) c.self.inside.course.ranks c.self.inside.course.events c.self.inside.course.kept
     c.args.rank c.args.call Done asked (start_answered c.self.inside.course.ranks c.self.inside.course.events c.args.rank c.args.call free c.requires.kind made.agrees) in

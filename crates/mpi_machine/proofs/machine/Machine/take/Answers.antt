@@ -12,6 +12,7 @@ use Rattle.mpi_machine.specs.Turns.{MachineState, after_answer}
 use Rattle.mpi_machine.proofs.Completing.{long_has, no_ok, take_sure, took_has, took_sure}
 use Rattle.mpi_machine.proofs.Growing.{idle_event}
 use Rattle.mpi_machine.proofs.Moving.{after_reply, idle_keeps, live_in, machine_with, turn_is}
+use Rattle.run_model.specs.Views.{moment_at}
 use Rattle.mpi_machine.proofs.machine.Machine.take.Goals as goal
 
 pub returns-in_err-items-clause-sure : goal.returns-in_err-items-clause-sure
@@ -44,7 +45,7 @@ invariant_of-self-in-Took g c =
     let free = rw (← c.self.view_is) at c.requires.bound in
     let F : TakeAnswer → Type 0 = λ a. Answers c.self.inside.course.ranks c.self.inside.course.events c.args.rank c.args.starts c.args.mode a in
     let answers = subst F c.in-Took.is (c.in_ok-items.ensures.knows c.self.inside.course.ranks c.self.inside.course.events c.self.invariant.knows) in
-    let G : TakeAnswer → Type 0 = λ a. KnowsTaken c.self.inside.course.ranks c.self.inside.course.events c.args.rank c.args.starts c.args.mode a c.take.new.self in
+    let G : TakeAnswer → Type 0 = λ a. KnowsTaken (moment_at c.self.inside.course.ranks c.self.inside.course.events c.args.rank) c.args.starts c.args.mode a c.take.new.self in
     let knows = subst G c.in-Took.is (c.in_ok-items.ensures.knows_on c.self.inside.course.ranks c.self.inside.course.events c.self.invariant.knows) in
     let has = took_has (g.P.Program.next c.self.inside.program.now) c.self.inside.course.ranks c.self.inside.course.events c.self.inside.course.kept
     c.args.rank c.args.starts c.args.mode c.in-Took.items asked free answers in

@@ -1,5 +1,5 @@
 use Rattle.std.proofs.Common.{ap, arith, length, ◌∙◌}
-use Rattle.msg_races.specs.Names.{count_others}
+use Rattle.msg_races.specs.Names.{count_racing}
 use Rattle.msg_races.proofs.Counting.{count-push}
 use Rattle.msg_races.proofs.listing.Listing.push.Goals as goal
 
@@ -14,7 +14,7 @@ returns-then-others-self-clause-many c = λ too_many.
 
 pub invariant_of-self-2 : goal.invariant_of-self-2
 invariant_of-self-2 c =
-    let pushed = ap count_others c.in-Ok.ensures.ok ∙ count-push c.self.inside.receives c.args.receive in
+    let pushed = ap count_racing c.in-Ok.ensures.ok ∙ count-push c.self.inside.receives c.args.receive in
     let long = ap length c.as_slice-others.ensures in
     let is = c.self.invariant in
     let low = c.if-others-self.false in

@@ -1,6 +1,6 @@
 use Rattle.std.proofs.Common.{◌∙◌, ap, arith, sym}
 use Rattle.plan_advice.specs.Costs.{block_cost}
-use Rattle.plan_advice.specs.Pieces.{Costed, block_ranks, kept_by}
+use Rattle.plan_advice.specs.inside.Pieces.{Costed, block_ranks, kept_by}
 use Rattle.plan_advice.proofs.Totals.{block_is}
 use Rattle.plan_advice.proofs.costs.Costs.block.Goals as goal
 

@@ -2,7 +2,7 @@ use Rattle.std.proofs.Common.{◌≡◌, ◌∙◌, ◌++◌, ◌∷◌, [], ap,
 use Rattle.std.proofs.lemmas.Result.{err_from_is_err_and}
 use Rattle.c_program.specs.declared.state.StackMark.{StackMark}
 use Rattle.c_program.specs.State.{stack_mark}
-use Rattle.rank_machine.specs.declared.frame.Frame.TheVariants.{Called}
+use Rattle.rank_machine.specs.declared.frame.ContinuationFrame.TheVariants.{Called}
 use Rattle.rank_machine.specs.Frames.{given_to, within}
 use Rattle.rank_machine.proofs.Stacks.{body_of, call-opens, entry, fails-from}
 use Rattle.rank_machine.proofs.stack.Stack.call_function.Goals as goal

@@ -1,5 +1,5 @@
 use Rattle.std.proofs.Common.{◌∙◌, sym, ap, rules}
-use Rattle.rank_machine.specs.declared.frame.Frame.TheVariants.{Block, Called, Turn}
+use Rattle.rank_machine.specs.declared.frame.ContinuationFrame.TheVariants.{Block, Called, Turn}
 use Rattle.rank_machine.specs.Frames.{Open, within}
 use Rattle.rank_machine.proofs.Stacks.{again-passes, at-is, opens-pass, pushed, stands-from}
 use Rattle.rank_machine.proofs.stack.Stack.go_again.Goals as goal

@@ -1,5 +1,5 @@
 use Rattle.std.proofs.Common.{◌≡◌, ◌∙◌, sym, ap, refl}
-use Rattle.rank_machine.specs.declared.frame.Frame.TheVariants.{One, Rest, Items, Block, Repeat, Turn, Called}
+use Rattle.rank_machine.specs.declared.frame.ContinuationFrame.TheVariants.{One, Rest, Items, Block, Repeat, Turn, Called}
 use Rattle.rank_machine.specs.Frames.{Open, within}
 use Rattle.rank_machine.proofs.Stacks.{first-part, no-items, pushed, rest-goes, stands-from}
 use Rattle.rank_machine.proofs.stack.Stack.resume.Goals as goal

@@ -2,8 +2,8 @@ use Rattle.std.proofs.Common.{◌∙◌, map, sym, ap, refl}
 use Rattle.c_program.specs.Meaning.{declare_all, leaving}
 use Rattle.c_program.specs.State.{State, stack_mark}
 use Rattle.c_program.specs.View.{pure_item}
-use Rattle.rank_machine.specs.declared.frame.Frame.TheVariants.{Block, Repeat}
-use Rattle.rank_machine.specs.Frames.{Open, calls_in, inside, looping, within}
+use Rattle.rank_machine.specs.declared.frame.ContinuationFrame.TheVariants.{Block, Repeat}
+use Rattle.rank_machine.specs.Frames.{Open, calls_in, open_inside, looping, within}
 use Rattle.rank_machine.proofs.Stacks.{at-is, pushed-two, stands-from}
 use Rattle.rank_machine.proofs.stack.Stack.run_for.Goals as goal
 
@@ -20,7 +20,7 @@ simple-requires-clause-counted c =
 pub returns-in-Nothing-clause-stands : goal.returns-in-Nothing-clause-stands
 returns-in-Nothing-clause-stands c =
     let p = pushed-two c.args.code.now c.args.self.now.frames.items c.push.new.self.items c.push-2.new.self.items (Block c.mark.result) (Repeat c.args.around) c.in_ok-push.ensures.items c.in_ok-push-2.ensures.items in
-    at-is _ c.args.code.now _ _ (inside c.args.code.now (Repeat c.args.around) (inside c.args.code.now (Block c.mark.result) (within c.args.code.now c.args.self.now.frames.items))) p
+    at-is _ c.args.code.now _ _ (open_inside c.args.code.now (Repeat c.args.around) (open_inside c.args.code.now (Block c.mark.result) (within c.args.code.now c.args.self.now.frames.items))) p
     (rw (c.in-Nothing.is, c.mark.ensures, ← c.requires.counted) refl) c.requires.counted
 
 pub returns-in_ok-take_step-in-Declaration-clause-stands : goal.returns-in_ok-take_step-in-Declaration-clause-stands

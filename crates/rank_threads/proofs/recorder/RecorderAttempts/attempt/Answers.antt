@@ -1,5 +1,5 @@
 use Rattle.std.proofs.Common.{ℕ, refl}
-use Rattle.rank_threads.specs.Readings.{machine_reading}
+use Rattle.rank_threads.specs.inside.Readings.{machine_reading}
 use Rattle.rank_threads.proofs.Numbers.{adds, replies_of_own}
 use Rattle.rank_threads.proofs.recorder.RecorderAttempts.attempt.Goals as goal
 

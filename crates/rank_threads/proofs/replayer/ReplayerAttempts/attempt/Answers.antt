@@ -1,6 +1,6 @@
 use Rattle.std.proofs.Common.{refl}
-use Rattle.rank_threads.specs.Readings.{replay_reading}
-use Rattle.rank_threads.specs.Numbered.{place_in}
+use Rattle.rank_threads.specs.inside.Readings.{replay_reading}
+use Rattle.rank_threads.specs.inside.Numbered.{place_in}
 use Rattle.rank_threads.proofs.Numbers.{adds, replies_of_own, place_alone}
 use Rattle.rank_threads.proofs.replayer.ReplayerAttempts.attempt.Goals as goal
 

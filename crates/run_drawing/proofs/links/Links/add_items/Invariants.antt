@@ -1,6 +1,6 @@
 use Rattle.std.proofs.Common.{◌≡◌, ◌++◌, length}
 use Rattle.run_drawing.specs.Links.{links_in}
-use Rattle.run_drawing.specs.Scenes.{AreIndexed}
+use Rattle.run_drawing.specs.inside.Scenes.{AreIndexed}
 use Rattle.run_drawing.proofs.links.Links.add_items.Given as goal
 
 abbrev pub invariant-loop-rest : goal.invariant-loop-rest

@@ -3,7 +3,7 @@ use Rattle.std.proofs.lemmas.Option.{slice_get_read}
 use Rattle.std.proofs.lemmas.Result.{on_ok_weaker}
 use Rattle.causes.specs.Steps.{rests_on}
 use Rattle.run_model.specs.declared.event.Event.{Event}
-use Rattle.run_drawing.specs.Links.{deeper, deepest, depth_after, last_of, links_by}
+use Rattle.run_drawing.specs.Links.{deeper, deepest, depth_after, last_position, links_by}
 use Rattle.run_drawing.proofs.TracedLemmas.{few_depths, traced_next}
 use Rattle.run_drawing.proofs.tracing.Tracing.add.Goals as goal
 
@@ -25,7 +25,7 @@ returns c =
       tables = told (take c.args.at c.args.events.now) (sym long) c.requires.traced.tables;
       ranks = c.note.ensures.ranks;
       depths_new = search rules;
-      depth_is = c.depth_of-depth.ensures ∙ ap (λ (l : List ℕ). depth_after l (deeper l (last_of (take c.args.at c.args.events.now) c.index-events-at.result.rank) c.in_ok-cause.cause)) c.as_slice-2.ensures.value;
+      depth_is = c.depth_of-depth.ensures ∙ ap (λ (l : List ℕ). depth_after l (deeper l (last_position (take c.args.at c.args.events.now) c.index-events-at.result.rank) c.in_ok-cause.cause)) c.as_slice-2.ensures.value;
       causes = search rules;
       cause_is = c.in_ok-cause.ensures ∙ ap (λ (l : List ℕ). deepest l (rests_on c.args.self.now.tables.ranks (take c.args.at c.args.events.now) e.rank e.call e.reply)) c.as_slice.ensures.value;
       indexed = c.in_ok-add_event.ensures.indexed;

@@ -6,7 +6,7 @@ use Rattle.run_model.specs.Program.{MayGive}
 use Rattle.run_model.specs.Views.{replies_in, view_of}
 use Rattle.replay_model.specs.declared.step.Step.{Step}
 use Rattle.replay_model.specs.declared.step.Step.TheVariants.{Replied}
-use Rattle.replay_model.specs.Replays.{answer_of}
+use Rattle.replay_model.specs.Replays.{replay_answer}
 use Rattle.srr_replay.proofs.LogLemmas.{below_at}
 use Rattle.srr_replay.proofs.PlaceLemmas.{ArePlaces-set, noted_place, place_below}
 use Rattle.srr_replay.proofs.ReplaysLemmas.{AreInOrder-Replays, KeepsForm, MayGive-Replays}
@@ -57,7 +57,7 @@ returns-clause-shape g c =
     let events = c.self.inside.seen.events in
     let log = c.self.inside.log.now in
     let next = g.P.Program.next c.self.inside.program.now in
-    let Is : Step → Type 0 = λ step. step ≡ answer_of log c.self.inside.stop (view_of events) c.args.rank (view_of events c.args.rank) c.args.call.now in
+    let Is : Step → Type 0 = λ step. step ≡ replay_answer log c.self.inside.stop (view_of events) c.args.rank (view_of events c.args.rank) c.args.call.now in
     let Gives : Step → Type 0 = λ step. (reply : Reply) → step ≡ Replied reply → MayGive next log.ranks c.args.rank (replies_in (view_of events c.args.rank)) reply in
     let laws : KeepsForm next = record { enters = g.P.Program.enters_in_form c.self.inside.program.now; bounds = g.P.Program.asks_in_bounds c.self.inside.program.now } in
     rw (← c.self.view_is)

@@ -4,7 +4,7 @@ use Rattle.run_model.specs.declared.event.Event.{Event}
 use Rattle.run_model.specs.Views.{view_of}
 use Rattle.view_tables.specs.StartTable.{TakesMade}
 use Rattle.srr_replay.proofs.LogLemmas.{below_at}
-use Rattle.replay_model.specs.Replays.{event_of}
+use Rattle.replay_model.specs.Replays.{replied_event}
 use Rattle.srr_replay.proofs.PlaceLemmas.{ArePlaces-after, place_below}
 use Rattle.srr_replay.proofs.ReplaysLemmas.{EntersKnown-Replays, Replays-after, TakesMade-Replays}
 use Rattle.srr_replay.proofs.replay.Replay.append.Goals as goal
@@ -49,5 +49,5 @@ invariant_of-self-2 g c =
           (rw (← c.self.view_is) at c.requires.next)
           (rw (← c.self.view_is) at c.requires.answer),
       c.self.invariant.2,
-      ArePlaces-after _ _ c.self.inside.seen.events c.self.inside.places (event_of c.args.rank c.args.call.now c.args.reply.now) below c.self.invariant.3,
+      ArePlaces-after _ _ c.self.inside.seen.events c.self.inside.places (replied_event c.args.rank c.args.call.now c.args.reply.now) below c.self.invariant.3,
     )

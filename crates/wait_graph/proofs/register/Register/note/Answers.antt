@@ -1,9 +1,9 @@
 use Rattle.std.proofs.Common.{◌≡◌, ◌<◌, ◌∙◌, ◌++◌, ◌∷◌, ◌||◌, [], ℕ, ap, arith, get_or, is_some, length, refl, subst, sym}
 use Rattle.std.proofs.lemmas.List.{get_or_read}
-use Rattle.wait_graph.specs.declared.own.Own.{Own}
+use Rattle.wait_graph.specs.declared.own.RankRecord.{RankRecord}
 use Rattle.msg_races.specs.declared.names.Name.{Name as StartName}
-use Rattle.wait_graph.specs.Register.{IsOwn}
-use Rattle.wait_graph.specs.Names.{is_either}
+use Rattle.wait_graph.specs.Register.{IsRankRecord}
+use Rattle.wait_graph.specs.inside.Names.{is_either}
 use Rattle.wait_graph.specs.Partners.{is_paired_in}
 use Rattle.run_model.specs.Views.{view_of}
 use Rattle.wait_graph.proofs.RegisterLemmas.{register_more, few_calls}
@@ -11,13 +11,13 @@ use Rattle.wait_graph.proofs.register.Register.note.Goals as goal
 
 pub note-requires-clause-calls : goal.note-requires-clause-calls
 note-requires-clause-calls c =
-    let F : Own → Type 0 = λ o. IsOwn c.requires.0 (view_of c.requires.1 c.args.event.now.rank) o in
+    let F : RankRecord → Type 0 = λ o. IsRankRecord c.requires.0 (view_of c.requires.1 c.args.event.now.rank) o in
     let is = subst F (sym c.index_mut.ensures.value) (c.requires.2.ranks c.args.event.now.rank _ c.requires.3) in
     (few_calls c.requires.0 c.requires.1 c.args.event.now.rank c.index_mut.result.now is c.requires.4).0
 
 pub note-requires-clause-starts : goal.note-requires-clause-starts
 note-requires-clause-starts c =
-    let F : Own → Type 0 = λ o. IsOwn c.requires.0 (view_of c.requires.1 c.args.event.now.rank) o in
+    let F : RankRecord → Type 0 = λ o. IsRankRecord c.requires.0 (view_of c.requires.1 c.args.event.now.rank) o in
     let is = subst F (sym c.index_mut.ensures.value) (c.requires.2.ranks c.args.event.now.rank _ c.requires.3) in
     (few_calls c.requires.0 c.requires.1 c.args.event.now.rank c.index_mut.result.now is c.requires.4).1
 
@@ -27,10 +27,10 @@ returns c = λ n before is low.
     let rank : ℕ = c.args.event.now.rank in
     let within : rank < length old.ranks.items = (let many = is.as_many in omega (arith, many, low)) in
     let name : StartName = record { rank = rank; start = c.index.result.now.starts } in
-    let mine : (d : Own) → c.index.result.now ≡ get_or old.ranks.items rank d = λ d. get_or_read old.ranks.items rank c.index.result.now within c.index.ensures d in
-    let moved : (d : Own) → c.index_mut.result.now ≡ get_or old.ranks.items rank d = λ d. get_or_read old.ranks.items rank c.index_mut.result.now within c.index_mut.ensures.value d in
+    let mine : (d : RankRecord) → c.index.result.now ≡ get_or old.ranks.items rank d = λ d. get_or_read old.ranks.items rank c.index.result.now within c.index.ensures d in
+    let moved : (d : RankRecord) → c.index_mut.result.now ≡ get_or old.ranks.items rank d = λ d. get_or_read old.ranks.items rank c.index_mut.result.now within c.index_mut.ensures.value d in
     register_more n before c.args.event.now old _ name c.note.new.self is low refl
-    (λ d own. c.in_ok-note.ensures n (view_of before rank) (subst (IsOwn n (view_of before rank)) (sym (moved d)) own))
+    (λ d own. c.in_ok-note.ensures n (view_of before rank) (subst (IsRankRecord n (view_of before rank)) (sym (moved d)) own))
     (c.in_ok-push.ensures.items ∙ ap (λ m. old.names.items ++ m ∷ []) c.named.ensures) refl
-    (λ d. ap (λ (o : Own). o.starts) (mine d))
+    (λ d. ap (λ (o : RankRecord). o.starts) (mine d))
     (λ other. c.in_ok-join_some.ensures other ∙ ap (λ e. is_paired_in old.partners other || is_either e name other) c.earlier-earlier.ensures)

@@ -1,5 +1,5 @@
 use Rattle.std.proofs.Common.{[]}
-use Rattle.wiz_tool.specs.inside.Told.{outcome_of}
+use Rattle.wiz_tool.specs.inside.Told.{outcome_written}
 use Rattle.wiz_logs.proofs.DiffLemmas.{both_replay, compared_is, compares, first_ranks, status_is, traces_are}
 use Rattle.wiz_logs.proofs.commands.diff.compared.Goals as goal
 
@@ -20,7 +20,7 @@ compare-requires c = first_ranks c.args.runs.now c.args.first c.args.second c.re
 
 pub returns-in-Done : goal.returns-in-Done
 returns-in-Done c =
-    compares c.args.runs.now c.args.first c.args.second c.in_ok-ranks.ranks (outcome_of [] c.text_of_replays.result) c.requires c.in_ok-ranks.ensures
+    compares c.args.runs.now c.args.first c.args.second c.in_ok-ranks.ranks (outcome_written [] c.text_of_replays.result) c.requires c.in_ok-ranks.ensures
     (rw c.as_slice.ensures at c.text_fixes_meaning.ensures) c.parts_by_a_reply.ensures.parts c.parts_by_a_reply.ensures.alone
     (compared_is c.args.first c.args.second c.in_ok-ranks.ranks c.of_both.result c.of_comparison.result c.in_ok-text-in-Done.text c.in_ok-replays-in-Done.replays
     c.text_of_replays.result c.in-Done.is
@@ -29,7 +29,7 @@ returns-in-Done c =
 
 pub returns : goal.returns
 returns c =
-    compares c.args.runs.now c.args.first c.args.second c.in_ok-ranks.ranks (outcome_of [] c.text_of_replays-in_default.result) c.requires c.in_ok-ranks.ensures
+    compares c.args.runs.now c.args.first c.args.second c.in_ok-ranks.ranks (outcome_written [] c.text_of_replays-in_default.result) c.requires c.in_ok-ranks.ensures
     (rw c.as_slice.ensures at c.text_fixes_meaning.ensures) c.parts_by_a_reply.ensures.parts c.parts_by_a_reply.ensures.alone
     (traces_are c.args.first c.args.second c.in_ok-ranks.ranks c.of_both.result c.in_ok-text-in_default.text c.in_ok-replays-in_default.replays
     c.text_of_replays-in_default.result c.in_default.not-Done

@@ -24,33 +24,33 @@ pub returns-in_err-refinement : goal.returns-in_err-refinement
 returns-in_err-refinement g c =
     let p = err_from_is_err_and c.from_residual.result c.from_residual.ensures.1 in
     rw (p.1, p.2)
-    (command_failed (refine_task c.args.name.now c.args.plan.now c.args.prefix.now) (environment (g.S.Store.told c.args.store.now) (g.K.Sink.told c.args.out.now)) (environment (g.S.Store.told c.read_refinement.new.store) (g.K.Sink.told c.args.out.now))
+    (command_failed (refine_task c.args.name.now c.args.plan.now c.args.prefix.now) (environment (g.S.Store.observed c.args.store.now) (g.K.Sink.observed c.args.out.now)) (environment (g.S.Store.observed c.read_refinement.new.store) (g.K.Sink.observed c.args.out.now))
     c.in_err-refinement.field-0.0 (record { files = c.in_err-refinement.ensures.files; out = refl }) c.in_err-refinement.ensures.refused)
 
 pub returns-in_err-replayed : goal.returns-in_err-replayed
 returns-in_err-replayed g c =
     let p = err_from_is_err_and c.from_residual-in_err-replayed.result c.from_residual-in_err-replayed.ensures.1 in
     rw p.1
-    (command_short (refine_task c.args.name.now c.args.plan.now c.args.prefix.now) (environment (g.S.Store.told c.args.store.now) (g.K.Sink.told c.args.out.now)) (environment (g.S.Store.told c.read_refinement.new.store) (g.K.Sink.told c.args.out.now)) _ p.2 (record { files = c.in_ok-refinement.ensures.files; out = refl }))
+    (command_short (refine_task c.args.name.now c.args.plan.now c.args.prefix.now) (environment (g.S.Store.observed c.args.store.now) (g.K.Sink.observed c.args.out.now)) (environment (g.S.Store.observed c.read_refinement.new.store) (g.K.Sink.observed c.args.out.now)) _ p.2 (record { files = c.in_ok-refinement.ensures.files; out = refl }))
 
 pub returns-in_err-report : goal.returns-in_err-report
 returns-in_err-report g c =
     let p = err_from_is_err_and c.from_residual-in_err-report.result c.from_residual-in_err-report.ensures.1 in
     let held = c.in_ok-refinement.ensures.refinement in
-    let does = refine_done c.args.name.now c.args.plan.now c.args.prefix.now (environment (g.S.Store.told c.args.store.now) (g.K.Sink.told c.args.out.now)) held.0 c.in_ok-refinement.refinement c.in_ok-replayed.replayed
+    let does = refine_done c.args.name.now c.args.plan.now c.args.prefix.now (environment (g.S.Store.observed c.args.store.now) (g.K.Sink.observed c.args.out.now)) held.0 c.in_ok-refinement.refinement c.in_ok-replayed.replayed
     held.1 held.2 c.groups_rise.ensures c.in_ok-replayed.ensures (subst RepliesFit32 c.as_slice.ensures.events c.replies_fit.ensures) in
     rw p.1
-    (done_short (refine_task c.args.name.now c.args.plan.now c.args.prefix.now) (environment (g.S.Store.told c.args.store.now) (g.K.Sink.told c.args.out.now))
-    (environment (g.S.Store.told c.tell_replayed.new.store) (g.K.Sink.told c.tell_replayed.new.out)) (refine_outcome c.args.prefix.now c.in_ok-refinement.refinement.log c.in_ok-refinement.refinement.plan c.in_ok-replayed.replayed) c.in_err-report.field-0.0 _ p.2 does
-    (told_from (refine_outcome c.args.prefix.now c.in_ok-refinement.refinement.log c.in_ok-refinement.refinement.plan c.in_ok-replayed.replayed) (environment (g.S.Store.told c.args.store.now) (g.K.Sink.told c.args.out.now))
-    (environment (g.S.Store.told c.read_refinement.new.store) (g.K.Sink.told c.args.out.now)) (environment (g.S.Store.told c.tell_replayed.new.store) (g.K.Sink.told c.tell_replayed.new.out)) (Err c.in_err-report.field-0.0) c.in_ok-refinement.ensures.files c.in_ok-refinement.ensures.writes refl c.in_err-report.ensures.told))
+    (done_short (refine_task c.args.name.now c.args.plan.now c.args.prefix.now) (environment (g.S.Store.observed c.args.store.now) (g.K.Sink.observed c.args.out.now))
+    (environment (g.S.Store.observed c.tell_replayed.new.store) (g.K.Sink.observed c.tell_replayed.new.out)) (refine_outcome c.args.prefix.now c.in_ok-refinement.refinement.log c.in_ok-refinement.refinement.plan c.in_ok-replayed.replayed) c.in_err-report.field-0.0 _ p.2 does
+    (told_from (refine_outcome c.args.prefix.now c.in_ok-refinement.refinement.log c.in_ok-refinement.refinement.plan c.in_ok-replayed.replayed) (environment (g.S.Store.observed c.args.store.now) (g.K.Sink.observed c.args.out.now))
+    (environment (g.S.Store.observed c.read_refinement.new.store) (g.K.Sink.observed c.args.out.now)) (environment (g.S.Store.observed c.tell_replayed.new.store) (g.K.Sink.observed c.tell_replayed.new.out)) (Err c.in_err-report.field-0.0) c.in_ok-refinement.ensures.files c.in_ok-refinement.ensures.writes refl c.in_err-report.ensures.told))
 
 pub returns : goal.returns
 returns g c =
     let held = c.in_ok-refinement.ensures.refinement in
-    let does = refine_done c.args.name.now c.args.plan.now c.args.prefix.now (environment (g.S.Store.told c.args.store.now) (g.K.Sink.told c.args.out.now)) held.0 c.in_ok-refinement.refinement c.in_ok-replayed.replayed
+    let does = refine_done c.args.name.now c.args.plan.now c.args.prefix.now (environment (g.S.Store.observed c.args.store.now) (g.K.Sink.observed c.args.out.now)) held.0 c.in_ok-refinement.refinement c.in_ok-replayed.replayed
     held.1 held.2 c.groups_rise.ensures c.in_ok-replayed.ensures (subst RepliesFit32 c.as_slice.ensures.events c.replies_fit.ensures) in
-    done_told (refine_task c.args.name.now c.args.plan.now c.args.prefix.now) (environment (g.S.Store.told c.args.store.now) (g.K.Sink.told c.args.out.now))
-    (environment (g.S.Store.told c.tell_replayed.new.store) (g.K.Sink.told c.tell_replayed.new.out)) (refine_outcome c.args.prefix.now c.in_ok-refinement.refinement.log c.in_ok-refinement.refinement.plan c.in_ok-replayed.replayed) c.in_ok-report.report does
-    (told_from (refine_outcome c.args.prefix.now c.in_ok-refinement.refinement.log c.in_ok-refinement.refinement.plan c.in_ok-replayed.replayed) (environment (g.S.Store.told c.args.store.now) (g.K.Sink.told c.args.out.now))
-    (environment (g.S.Store.told c.read_refinement.new.store) (g.K.Sink.told c.args.out.now)) (environment (g.S.Store.told c.tell_replayed.new.store) (g.K.Sink.told c.tell_replayed.new.out)) (Ok c.in_ok-report.report) c.in_ok-refinement.ensures.files c.in_ok-refinement.ensures.writes refl c.in_ok-report.ensures.told)
+    done_told (refine_task c.args.name.now c.args.plan.now c.args.prefix.now) (environment (g.S.Store.observed c.args.store.now) (g.K.Sink.observed c.args.out.now))
+    (environment (g.S.Store.observed c.tell_replayed.new.store) (g.K.Sink.observed c.tell_replayed.new.out)) (refine_outcome c.args.prefix.now c.in_ok-refinement.refinement.log c.in_ok-refinement.refinement.plan c.in_ok-replayed.replayed) c.in_ok-report.report does
+    (told_from (refine_outcome c.args.prefix.now c.in_ok-refinement.refinement.log c.in_ok-refinement.refinement.plan c.in_ok-replayed.replayed) (environment (g.S.Store.observed c.args.store.now) (g.K.Sink.observed c.args.out.now))
+    (environment (g.S.Store.observed c.read_refinement.new.store) (g.K.Sink.observed c.args.out.now)) (environment (g.S.Store.observed c.tell_replayed.new.store) (g.K.Sink.observed c.tell_replayed.new.out)) (Ok c.in_ok-report.report) c.in_ok-refinement.ensures.files c.in_ok-refinement.ensures.writes refl c.in_ok-report.ensures.told)

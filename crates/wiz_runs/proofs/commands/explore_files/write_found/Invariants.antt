@@ -5,7 +5,7 @@ use Rattle.wiz_runs.proofs.commands.explore_files.write_found.Given as goal
 
 abbrev pub invariant-loop-number : goal.invariant-loop-number
 invariant-loop-number g l = record {
-  written : AreWritten (g.S.Store.told l.initial.store).files (g.S.Store.told l.store).files (numbered_files l.prefix 0 (take l.number (found_turns l.listed))) [];
-  reads : (g.S.Store.told l.store).reads ≡ (g.S.Store.told l.initial.store).reads;
-  later : (g.S.Store.told l.initial.store).writes ≤ (g.S.Store.told l.store).writes;
+  written : AreWritten (g.S.Store.observed l.initial.store).files (g.S.Store.observed l.store).files (numbered_files l.prefix 0 (take l.number (found_turns l.listed))) [];
+  reads : (g.S.Store.observed l.store).reads ≡ (g.S.Store.observed l.initial.store).reads;
+  later : (g.S.Store.observed l.initial.store).writes ≤ (g.S.Store.observed l.store).writes;
 }

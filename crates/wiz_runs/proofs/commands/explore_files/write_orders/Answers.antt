@@ -11,7 +11,7 @@ returns-clause-ok g c =
     let explored = c.args.explored.now in
     let found = found_turns explored.found in
     on_ok c.write_left.result _ _
-    (λ written. AreWritten-append (g.S.Store.told c.args.store.now).files (g.S.Store.told c.write_found.new.store).files (g.S.Store.told c.write_left.new.store).files
+    (λ written. AreWritten-append (g.S.Store.observed c.args.store.now).files (g.S.Store.observed c.write_found.new.store).files (g.S.Store.observed c.write_left.new.store).files
     (numbered_files prefix 0 found) (numbered_files (left_prefix prefix) 0 explored.left) [] (rw c.as_slice.ensures at c.in_ok-write_found.ensures.ok)
     (rw (c.as_slice-2.ensures, c.deref.ensures, c.in_ok-left.ensures) at written) (found_apart_all prefix found explored.left))
     c.write_left.ensures.ok
@@ -22,7 +22,7 @@ returns-clause-stopped g c =
     let explored = c.args.explored.now in
     let found = found_turns explored.found in
     if_err c.write_left.result _ _
-    (λ why stopped. IsStopped-behind (g.S.Store.told c.args.store.now) (g.S.Store.told c.write_found.new.store) (g.S.Store.told c.write_left.new.store)
+    (λ why stopped. IsStopped-behind (g.S.Store.observed c.args.store.now) (g.S.Store.observed c.write_found.new.store) (g.S.Store.observed c.write_left.new.store)
     (numbered_files prefix 0 found) (numbered_files (left_prefix prefix) 0 explored.left) why (rw c.as_slice.ensures at c.in_ok-write_found.ensures.ok)
     (rw (c.as_slice-2.ensures, c.deref.ensures, c.in_ok-left.ensures) at stopped) c.in_ok-write_found.ensures.later (found_apart prefix 0 found explored.left))
     c.write_left.ensures.stopped

@@ -16,30 +16,30 @@ pub returns-in_err-ready : goal.returns-in_err-ready
 returns-in_err-ready g c =
     let p = err_from_is_err_and c.from_residual.result c.from_residual.ensures.1 in
     rw (p.1, p.2)
-    (command_failed (run_task (run_with_texts c.args.run.now) (TellsPicture c.args.file.now c.args.is_trace)) (environment (g.S.Store.told c.args.store.now) (g.K.Sink.told c.args.out.now))
-    (environment (g.S.Store.told c.read_run.new.store) (g.K.Sink.told c.args.out.now))
+    (command_failed (run_task (run_with_texts c.args.run.now) (TellsPicture c.args.file.now c.args.is_trace)) (environment (g.S.Store.observed c.args.store.now) (g.K.Sink.observed c.args.out.now))
+    (environment (g.S.Store.observed c.read_run.new.store) (g.K.Sink.observed c.args.out.now))
     c.in_err-ready.field-0.0 (record { files = c.in_err-ready.ensures.files; out = refl }) c.in_err-ready.ensures.refused)
 
 pub returns-in_err-recording : goal.returns-in_err-recording
 returns-in_err-recording g c =
     let p = err_from_is_err_and c.from_residual-in_err-recording.result c.from_residual-in_err-recording.ensures.1 in
     rw p.1
-    (command_short (run_task (run_with_texts c.args.run.now) (TellsPicture c.args.file.now c.args.is_trace)) (environment (g.S.Store.told c.args.store.now) (g.K.Sink.told c.args.out.now))
-    (environment (g.S.Store.told c.read_run.new.store) (g.K.Sink.told c.args.out.now)) _ p.2 (record { files = c.in_ok-ready.ensures.files; out = refl }))
+    (command_short (run_task (run_with_texts c.args.run.now) (TellsPicture c.args.file.now c.args.is_trace)) (environment (g.S.Store.observed c.args.store.now) (g.K.Sink.observed c.args.out.now))
+    (environment (g.S.Store.observed c.read_run.new.store) (g.K.Sink.observed c.args.out.now)) _ p.2 (record { files = c.in_ok-ready.ensures.files; out = refl }))
 
 pub returns-in_err-picture : goal.returns-in_err-picture
 returns-in_err-picture g c =
     let p = err_from_is_err_and c.from_residual-in_err-picture.result c.from_residual-in_err-picture.ensures.1 in
     rw p.1
-    (command_short (run_task (run_with_texts c.args.run.now) (TellsPicture c.args.file.now c.args.is_trace)) (environment (g.S.Store.told c.args.store.now) (g.K.Sink.told c.args.out.now))
-    (environment (g.S.Store.told c.read_run.new.store) (g.K.Sink.told c.args.out.now)) _ p.2 (record { files = c.in_ok-ready.ensures.files; out = refl }))
+    (command_short (run_task (run_with_texts c.args.run.now) (TellsPicture c.args.file.now c.args.is_trace)) (environment (g.S.Store.observed c.args.store.now) (g.K.Sink.observed c.args.out.now))
+    (environment (g.S.Store.observed c.read_run.new.store) (g.K.Sink.observed c.args.out.now)) _ p.2 (record { files = c.in_ok-ready.ensures.files; out = refl }))
 
 pub returns-in_err-report : goal.returns-in_err-report
 returns-in_err-report g c =
     let p = err_from_is_err_and c.from_residual-in_err-report.result c.from_residual-in_err-report.ensures.1 in
-    let before = environment (g.S.Store.told c.args.store.now) (g.K.Sink.told c.args.out.now) in
-    let mid = environment (g.S.Store.told c.read_run.new.store) (g.K.Sink.told c.args.out.now) in
-    let after = environment (g.S.Store.told c.write.new.store) (g.K.Sink.told c.write.new.out) in
+    let before = environment (g.S.Store.observed c.args.store.now) (g.K.Sink.observed c.args.out.now) in
+    let mid = environment (g.S.Store.observed c.read_run.new.store) (g.K.Sink.observed c.args.out.now) in
+    let after = environment (g.S.Store.observed c.write.new.store) (g.K.Sink.observed c.write.new.out) in
     let ready = c.in_ok-ready.ensures.ready in
     let outcome = picture_outcome c.args.file.now c.in_ok-recording.recording c.in_ok-picture.picture in
     let does = picture_done (run_with_texts c.args.run.now) c.args.file.now c.args.is_trace before ready.0 c.in_ok-ready.ready c.in_ok-recording.recording c.in_ok-picture.picture
@@ -50,9 +50,9 @@ returns-in_err-report g c =
 
 pub returns : goal.returns
 returns g c =
-    let before = environment (g.S.Store.told c.args.store.now) (g.K.Sink.told c.args.out.now) in
-    let mid = environment (g.S.Store.told c.read_run.new.store) (g.K.Sink.told c.args.out.now) in
-    let after = environment (g.S.Store.told c.write.new.store) (g.K.Sink.told c.write.new.out) in
+    let before = environment (g.S.Store.observed c.args.store.now) (g.K.Sink.observed c.args.out.now) in
+    let mid = environment (g.S.Store.observed c.read_run.new.store) (g.K.Sink.observed c.args.out.now) in
+    let after = environment (g.S.Store.observed c.write.new.store) (g.K.Sink.observed c.write.new.out) in
     let ready = c.in_ok-ready.ensures.ready in
     let outcome = picture_outcome c.args.file.now c.in_ok-recording.recording c.in_ok-picture.picture in
     let does = picture_done (run_with_texts c.args.run.now) c.args.file.now c.args.is_trace before ready.0 c.in_ok-ready.ready c.in_ok-recording.recording c.in_ok-picture.picture

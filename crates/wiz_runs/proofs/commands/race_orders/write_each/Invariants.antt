@@ -5,7 +5,7 @@ use Rattle.wiz_runs.proofs.commands.race_orders.write_each.Given as goal
 
 abbrev pub invariant-loop-other : goal.invariant-loop-other
 invariant-loop-other g l = record {
-  written : AreWritten (g.S.Store.told l.initial.store).files (g.S.Store.told l.store).files (map (other_file l.prefix l.recording) (take l.other-index l.others)) [];
-  reads : (g.S.Store.told l.store).reads ≡ (g.S.Store.told l.initial.store).reads;
-  later : (g.S.Store.told l.initial.store).writes ≤ (g.S.Store.told l.store).writes;
+  written : AreWritten (g.S.Store.observed l.initial.store).files (g.S.Store.observed l.store).files (map (other_file l.prefix l.recording) (take l.other-index l.others)) [];
+  reads : (g.S.Store.observed l.store).reads ≡ (g.S.Store.observed l.initial.store).reads;
+  later : (g.S.Store.observed l.initial.store).writes ≤ (g.S.Store.observed l.store).writes;
 }

@@ -5,7 +5,7 @@ use Rattle.wiz_runs.specs.Runs.{races_outcome}
 use Rattle.wiz_runs.specs.RaceOrders.{order_files}
 use Rattle.wiz_tool.specs.Environment.{Environment, environment}
 use Rattle.wiz_tool.specs.Files.{NamedFile}
-use Rattle.wiz_tool.specs.inside.Told.{outcome_of}
+use Rattle.wiz_tool.specs.inside.Told.{outcome_written}
 use Rattle.wiz_tool.proofs.FinishLemmas.{told_same}
 use Rattle.wiz_runs.proofs.RaceLemmas.{picks_made, races_are_told}
 use Rattle.wiz_runs.proofs.commands.races.write.Goals as goal
@@ -18,8 +18,8 @@ returns-clause-told g c = λ receives told.
     let orders = option_map (λ text. text.now) c.args.orders in
     let ranks = number_of_ranks c.args.ready.now.plan in
     let files : List NamedFile = order_files orders ranks c.args.recording in
-    let before : Environment = environment (g.S.Store.told c.args.store.now) (g.K.Sink.told c.args.out.now) in
-    told_same (outcome_of files c.text_of_run-done.result) (races_outcome orders ranks receives c.args.recording) before
-    (environment (g.S.Store.told c.write_orders-written.new.store) (g.K.Sink.told c.finish.new.out)) c.finish.result
+    let before : Environment = environment (g.S.Store.observed c.args.store.now) (g.K.Sink.observed c.args.out.now) in
+    told_same (outcome_written files c.text_of_run-done.result) (races_outcome orders ranks receives c.args.recording) before
+    (environment (g.S.Store.observed c.write_orders-written.new.store) (g.K.Sink.observed c.finish.new.out)) c.finish.result
     (races_are_told orders ranks receives c.args.recording c.text_of_run-done.result (c.text_of_run-done.ensures ∙ told))
-    (c.finish.ensures files before (g.S.Store.told c.write_orders-written.new.store) refl (rw c.n.ensures.ranks at c.write_orders-written.ensures.ok) (rw c.n.ensures.ranks at c.write_orders-written.ensures.stopped))
+    (c.finish.ensures files before (g.S.Store.observed c.write_orders-written.new.store) refl (rw c.n.ensures.ranks at c.write_orders-written.ensures.ok) (rw c.n.ensures.ranks at c.write_orders-written.ensures.stopped))

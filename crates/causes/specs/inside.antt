@@ -1,0 +1,3 @@
+-- What only the crate's own functions cite, by subjects.
+pub mod Joins
+pub mod Seen

@@ -1,6 +1,0 @@
-use Rattle.machine_tests.proofs.Positions.{next_later, next_taken}
-use Rattle.machine_tests.proofs.starting.complete.Goals as goal
-
-pub returns : goal.returns
-returns c =
-    next_later 2 c.args.at c.take.new.self (next_taken 2 c.args.at c.args.rank c.args.starts.now c.in_ok-answer.answer c.args.requests.now c.take.new.self c.requires.may c.in_ok-answer.ensures.after)

@@ -1,6 +1,0 @@
-use Rattle.std.proofs.Common.{◌≡◌}
-use Rattle.msg_races.specs.Listing.{others_below}
-use Rattle.msg_races.proofs.seen.Seen.others_of.Given as goal
-
-abbrev pub invariant-loop-sender : goal.invariant-loop-sender
-invariant-loop-sender l = l.others ≡ others_below l.self.causes l.arrival l.sender

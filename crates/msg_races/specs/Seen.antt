@@ -1,9 +1,0 @@
--- What is looked up in the events of a history.
-use Rattle.msg_races.specs.declared.seen.Seen.{Seen}
-use Rattle.msg_races.specs.Completions.{AreCompletions}
-use Rattle.msg_races.specs.Ways.{AreSends}
-
--- the Sends and the completions of the events whose clocks are known
-pub record IsSeen (seen : Seen) : Type 0 where
-  pub sends : AreSends seen.causes.events seen.sends
-  pub completions : AreCompletions seen.causes.events seen.completions

@@ -1,9 +1,0 @@
-use Rattle.std.proofs.Common.{◌≡◌, ◌++◌, [], length}
-use Rattle.srr_text.specs.LogText.{entries_text}
-use Rattle.srr_text.proofs.write_log.push_entries.Given as goal
-
-abbrev pub invariant-loop-rest : goal.invariant-loop-rest
-invariant-loop-rest l = l.out ++ entries_text l.rest [] ≡ l.initial.out ++ entries_text l.initial.rest []
-
-abbrev pub decreases-loop-rest : goal.decreases-loop-rest
-decreases-loop-rest l = length l.rest

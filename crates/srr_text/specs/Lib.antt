@@ -1,3 +1,0 @@
-pub mod EntryText
-pub mod Bounds
-pub mod LogText

@@ -1,8 +1,0 @@
-//! The bounds of a log beside those of calls and runs (`mpi_call::limits`).
-
-/// The greatest number of a start, of a communicator, and of an item's index.
-pub const GREATEST_NUMBER: u32 = 999_999;
-/// The most entries of a rank.
-pub const MOST_ENTRIES: u32 = 999_064;
-/// The most bytes of a program.
-pub const MOST_PROGRAM_BYTES: u32 = 65_536;
