@@ -1,4 +1,5 @@
 pub mod Least
+pub mod Typings
 pub mod Wanted
 pub mod LiteralLaws
 pub mod Rows

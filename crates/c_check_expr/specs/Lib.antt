@@ -1,4 +1,5 @@
 pub mod Least
+pub mod Typing
 pub mod Scopes
 pub mod Signatures
 pub mod Rows

@@ -1,2 +1,3 @@
 pub mod MpiRules
+pub mod MpiTypings
 pub mod Total

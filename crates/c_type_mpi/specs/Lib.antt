@@ -1,1 +1,3 @@
 pub mod MpiCalls
+pub mod MpiTyping
+pub mod CallTyping

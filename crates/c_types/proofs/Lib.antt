@@ -3,3 +3,5 @@ pub mod ProgramRules
 pub mod OneTyping
 pub mod Total
 pub mod Always
+pub mod ProgramTypings
+pub mod CheckTypings
