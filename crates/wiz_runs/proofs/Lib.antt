@@ -10,5 +10,3 @@ pub mod ReadableLogs
 pub mod RecordLemmas
 pub mod RecordingLemmas
 pub mod RunInputs
-pub mod SearchFiles
-pub mod SearchLemmas

@@ -1,5 +1,4 @@
 pub mod Demos
-pub mod Explorations
 pub mod Pictures
 pub mod RaceOrders
 pub mod RecordFiles

@@ -26,7 +26,6 @@ use Rattle.wait_graph.specs.Graph.{graph_of}
 use Rattle.wait_graph.specs.Opens.{NoneFits}
 use Rattle.wiz_base.specs.Decimals.{decimal_text}
 use Rattle.wiz_runs.specs.Demos.{demo_plan}
-use Rattle.wiz_runs.specs.Explorations.{Explores}
 use Rattle.wiz_runs.specs.RaceOrders.{IsOtherOrder, order_files}
 use Rattle.wiz_runs.specs.RecordFiles.{recording_files}
 use Rattle.wiz_task.specs.Recordings.{Records, RunTexts}
@@ -151,8 +150,3 @@ abbrev pub demo_task : ℕ → ℕ → Task
 demo_task seed rounds =
     let texts = demo_texts seed rounds in
     record { inputs = []; requirements = λ none. run_requirements texts; Does = λ none. Records false (run_texts texts) (TellsCheck (demonstrated seed rounds)) }
-
--- runs are searched
-abbrev pub search_task : RunWords Text → Text → ℕ → ℕ → Task
-search_task run prefix most polls =
-    record { inputs = run_inputs run; requirements = run_requirements; Does = λ texts. Explores prefix most polls (run_texts texts) }

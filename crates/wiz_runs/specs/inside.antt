@@ -1,4 +1,3 @@
 -- What the inner steps of the crate answer, by subjects.
-pub mod Exploring
 pub mod Races
 pub mod Recording

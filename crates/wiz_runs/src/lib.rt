@@ -1,6 +1,5 @@
-//! The commands that run a program: runs are recorded, or searched.
+//! The commands that run a program: runs are recorded, and told.
 #![tactic(auto)]
 
 pub mod commands;
-pub mod exploring;
 pub mod recording;

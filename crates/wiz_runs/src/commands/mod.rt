@@ -2,8 +2,6 @@
 pub mod advise;
 pub mod check;
 pub mod demo;
-pub mod explore_files;
-pub mod explore_runs;
 pub mod picture;
 pub mod race_orders;
 pub mod races;

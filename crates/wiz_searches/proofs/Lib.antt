@@ -1,0 +1,2 @@
+pub mod SearchFiles
+pub mod SearchLemmas

@@ -1,0 +1,2 @@
+-- What the inner steps of the crate answer.
+pub mod Exploring

@@ -1,0 +1,3 @@
+//! The command, and the order files that it writes.
+pub mod explore_files;
+pub mod explore_runs;
