@@ -2,7 +2,6 @@
 use Rattle.std.proofs.Common.{◌≡◌, ◌+◌, ◌*◌, ◌≤◌, ◌∙◌, ◌++◌, ℕ, zero, suc, List, [], ◌∷◌, length, take, refl, sym, ap, arith, append_assoc, length-append}
 use Rattle.std.proofs.lemmas.List.{append-nil, length-map, take-map}
 use Rattle.std.specs.Prelude.{ℤ}
-use Rattle.run_model.proofs.CommunicatorLaws.{world-last}
 use Rattle.run_model.specs.Lists.{world}
 use Rattle.c_names.specs.declared.kind.VariableKind.{VariableKind}
 use Rattle.c_names.specs.declared.kind.VariableKind.TheVariants.{Int, Status, Request, Communicator}
@@ -15,9 +14,6 @@ values_last cell (suc n) s =
     let more : suc n + 1 ≡ suc (n + 1) = omega arith in
     let e : cell + 1 + n ≡ cell + suc n = omega arith in
     rw more (ap (λ xs. cell_at s cell ∷ xs) (values_last (cell + 1) n s ∙ ap (λ at. values_from (cell + 1) n s ++ cell_at s at ∷ []) e))
-
-pub world_last : (n : ℕ) → world (n + 1) 0 ≡ world n 0 ++ n ∷ []
-world_last n = world-last n
 
 pub take_world : (n m from : ℕ) → n ≤ m → take n (world m from) ≡ world n from
 take_world zero zero from h = refl

@@ -23,7 +23,7 @@ use mpi_call::call::Fault;
 use mpi_call::limits::MOST_RANKS;
 use mpi_call::lists::{Ints, Ranks};
 use mpi_call::reply::{Got, Item};
-use run_model::lists::{Variable, Variables};
+use run_model::lists::{Variable, Variables, all_ranks};
 use std::alloc::{AllocError, Global};
 use std::marker::Model;
 use wiz_base::Bytes;
@@ -50,7 +50,7 @@ pub struct RankState<'p> {
     starts: Vec<Begun>,
     made: Vec<MadeCommunicator>,
     /// The ranks of the largest run.
-    world: Vec<u8>,
+    world: Ranks,
 }
 
 impl<'p> Model for RankState<'p> {
@@ -66,7 +66,7 @@ impl<'p> Model for RankState<'p> {
 
     ghost view = { λ s. record { cells = s.cells.items; slots = map slot_view s.slots.items; base = s.base; opens = s.opens; printed = s.printed.items; left = s.left; starts = s.starts.items; made = s.made.items } };
 
-    ghost invariant = { λ s. (s.world.items ≡ lists.world MOST_RANKS 0) × (length s.cells.items ≤ MOST_CELLS) × (length s.starts.items < 2 ^ 31) × HaveIntSizes s.made.items };
+    ghost invariant = { λ s. (s.world ≡ lists.world MOST_RANKS 0) × (length s.cells.items ≤ MOST_CELLS) × (length s.starts.items < 2 ^ 31) × HaveIntSizes s.made.items };
 }
 
 impl<'p> RankState<'p> {
@@ -84,7 +84,7 @@ impl<'p> RankState<'p> {
             left: MOST_STEPS,
             starts: Vec::new(alloc),
             made: Vec::new(alloc),
-            world: all_ranks(alloc)?,
+            world: all_ranks(alloc, MOST_RANKS)?,
         })
     }
 
@@ -306,7 +306,7 @@ impl<'p> RankState<'p> {
         ensures bound { IfSome result (λ members. length members.now < 2 ^ 31) }
     {
         if comm == 0 {
-            return Some(&self.world[..rank.ranks as usize]);
+            return Some(&self.world.as_slice()[..rank.ranks as usize]);
         }
         members_among(&self.made, comm)
     }
@@ -430,18 +430,6 @@ fn later_named(found: Option<Range>, slot: &Slot<'_>, name: &[u8]) -> Option<Ran
     } else {
         found
     }
-}
-
-/// The ranks of the largest run.
-#[tactic(auto, using(crate::proofs::StateLaws::world_last))]
-fn all_ranks(alloc: Global) -> Result<Vec<u8>, AllocError>
-    ensures { IfOk result (λ all. all.items ≡ world MOST_RANKS 0) }
-{
-    let mut all = Vec::new(alloc);
-    for rank in 0..MOST_RANKS {
-        all.push(rank)?;
-    }
-    Ok(all)
 }
 
 pub fn width_of(kind: VariableKind) -> u32

@@ -1,79 +1,93 @@
--- The arguments of a function of the text, one after the other.
-use Rattle.std.proofs.Common.{◌≡◌, ℕ, ◌+◌, ◌≤◌, List, [], ◌∷◌, ◌++◌, length, drop, map, Option, Some, None, option_map, sym, ap, subst, ◌∙◌, append_assoc, arith, slice_get}
-use Rattle.std.proofs.lemmas.List.{append-nil}
-use Rattle.std.proofs.lemmas.Option.{slice_get-map}
+-- What walks over arguments give, from what the walks over their parts give.
+use Rattle.std.proofs.Common.{◌≡◌, ◌+◌, ◌<◌, ◌≤◌, ℕ, zero, suc, min, List, [], ◌∷◌, length, drop, drop-cons, get_or, map, Option, Some, None, option_map, refl, arith, subst, Bor}
+use Rattle.c_lex.specs.declared.fault.Why.{Why}
+use Rattle.c_grammar.specs.declared.statement.AfterComma.{AfterComma}
+use Rattle.c_grammar.specs.declared.statement.Argument.{Argument}
+use Rattle.c_grammar.specs.declared.statement.Parameter.{Parameter}
+use Rattle.c_grammar.specs.declared.terminal.Span.{Span}
+use Rattle.c_grammar.specs.declared.terminal.Symbol.{Symbol}
+use Rattle.c_grammar.specs.declared.terminal.Symbol.TheVariants as w
+use Rattle.c_grammar.specs.declared.tree.Link.{Link}
+use Rattle.c_grammar.specs.StmtView.{argument_view, parameter_view}
 use Rattle.c_grammar.specs.Tree as t
+use Rattle.c_grammar.specs.View.{links_from, piece}
 use Rattle.c_names.specs.declared.function.ArgumentKind.{ArgumentKind}
-use Rattle.c_program.specs.declared.expr.TypedArgument.{TypedArgument}
-use Rattle.c_program.specs.View.{pure_argument}
-use Rattle.c_check_expr.proofs.Lists.{drop_got, drop_past}
-use Rattle.c_check.specs.Calls.{argument_faults, arguments_faults, arguments_of, call_faults, signature_takes}
-use Rattle.c_check_expr.specs.Scopes.{Env, Signature, meaning}
-use Rattle.c_check_expr.specs.Signatures.{parameter_takes}
-use Rattle.c_check_expr.specs.declared.meaning.Meaning.TheVariants as m
-use Rattle.c_check_expr.specs.declared.meaning.Entity.TheVariants as d
-use Rattle.c_type_expr.specs.Calls as y
-use Rattle.c_type_expr.specs.Calls.{AreTypedArguments, IsTypedArgument}
-use Rattle.c_type_expr.proofs.Faultless.{none_before, none_behind, text_fits}
+use Rattle.c_names.specs.declared.kind.VariableKind.{VariableKind}
+use Rattle.c_program.specs.Tree as pure
+use Rattle.c_program.specs.Tree.{Reference}
+use Rattle.c_scope.specs.Scopes.{Env, meaning}
+use Rattle.c_scope.specs.Signatures.{parameter_takes}
+use Rattle.c_scope.specs.Typing.{Typing, typed, behind, both, refused}
+use Rattle.c_scope.specs.Walks.{Gives, if_both}
+use Rattle.c_scope.specs.declared.fault.TypingFault.{TypingFault}
+use Rattle.c_scope.proofs.Gives.{gives_both, gives_form}
+use Rattle.c_scope.proofs.Lists.{drop_at}
+use Rattle.c_type_expr.specs.ExprTyping.{argument_typing, arguments_typing, array_typing, int_typing, misfit_typing, reference_typing}
+use Rattle.c_type_expr.specs.Shapes.{array_sum, name_alone, sum_base}
 
--- ---- arguments in a row
+-- ---- what is refused behind an expression
 
-pub left_faults : (env : Env) (kinds : List ArgumentKind) (given : List t.Argument) (i : ℕ) (kind : ArgumentKind) (one : t.Argument)
-    → slice_get kinds i ≡ Some kind → slice_get given i ≡ Some one → arguments_faults env (drop i kinds) (drop i given) ≡ []
-    → argument_faults env kind one ++ arguments_faults env (drop (i + 1) kinds) (drop (i + 1) given) ≡ []
-left_faults env kinds given i kind one k a h = rw (drop_got kinds i kind k, drop_got given i one a) at h
+none_behind : {A B : Type 0} (a : Option A) (b : Option B) → b ≡ None → option_map (λ form. form) b ≡ if_both (λ first second. second) a b
+none_behind None None e = refl
+none_behind (Some one) None e = refl
+none_behind a (Some form) e = absurd (cc)
 
-pub one_fault : (env : Env) (kinds : List ArgumentKind) (given : List t.Argument) (i : ℕ) (kind : ArgumentKind) (one : t.Argument)
-    → slice_get kinds i ≡ Some kind → slice_get given i ≡ Some one → arguments_faults env (drop i kinds) (drop i given) ≡ []
-    → argument_faults env kind one ≡ []
-one_fault env kinds given i kind one k a h =
-    none_before (argument_faults env kind one) (arguments_faults env (drop (i + 1) kinds) (drop (i + 1) given)) (left_faults env kinds given i kind one k a h)
+pub misfit_rule : {A B : Type 0} (s : Typing A) (old mid new : Option TypingFault) (found : Option A) (result : Option B) (given at : Span) (why : Why)
+    → Gives old mid found s → Gives mid new result (refused given why) → given ≡ at → Gives old new (option_map (λ form. form) result) (behind s (refused at why))
+misfit_rule s old mid new found result given at why g h e =
+    let told : Gives mid new result (refused at why) = subst (λ span. Gives mid new result (refused span why)) e h in
+    gives_form (gives_both (λ first second. second) s (refused at why) g told) (none_behind found result h.form)
 
-pub more_faults : (env : Env) (kinds : List ArgumentKind) (given : List t.Argument) (i : ℕ) (kind : ArgumentKind) (one : t.Argument)
-    → slice_get kinds i ≡ Some kind → slice_get given i ≡ Some one → arguments_faults env (drop i kinds) (drop i given) ≡ []
-    → arguments_faults env (drop (i + 1) kinds) (drop (i + 1) given) ≡ []
-more_faults env kinds given i kind one k a h =
-    none_behind (argument_faults env kind one) (arguments_faults env (drop (i + 1) kinds) (drop (i + 1) given)) (left_faults env kinds given i kind one k a h)
+-- ---- sums of a name and an operand
 
-pub arguments_more : (env : Env) (kinds : List ArgumentKind) (given : List t.Argument) (i : ℕ) (kind : ArgumentKind) (one : t.Argument)
-    (before after : List TypedArgument) (typed : TypedArgument) → after ≡ before ++ typed ∷ [] → slice_get kinds i ≡ Some kind → slice_get given i ≡ Some one
-    → IsTypedArgument env kind one (pure_argument typed)
-    → ((more : List TypedArgument) → AreTypedArguments env (drop i kinds) (drop i given) (map pure_argument more) → AreTypedArguments env kinds given (map pure_argument (before ++ more)))
-    → (more : List TypedArgument) → AreTypedArguments env (drop (i + 1) kinds) (drop (i + 1) given) (map pure_argument more) → AreTypedArguments env kinds given (map pure_argument (after ++ more))
-arguments_more env kinds given i kind one before after typed e k a is inv more rest =
-    let P : List TypedArgument → Type 0 = λ all. AreTypedArguments env kinds given (map pure_argument all) in
-    let Q : List ArgumentKind → Type 0 = λ left. AreTypedArguments env left (one ∷ drop (i + 1) given) (map pure_argument (typed ∷ more)) in
-    let R : List t.Argument → Type 0 = λ left. AreTypedArguments env (drop i kinds) left (map pure_argument (typed ∷ more)) in
-    let joined : before ++ typed ∷ more ≡ after ++ more = sym (append_assoc before (typed ∷ []) more) ∙ ap (λ all. all ++ more) (sym e) in
-    subst P joined (inv (typed ∷ more) (subst R (sym (drop_got given i one a)) (subst Q (sym (drop_got kinds i kind k)) (y.argument is rest))))
+sum_longer : (name : Span) (operator : Symbol) (at : Span) (operand : t.Expr) (other : Symbol) (other_at : Span) (second : t.Expr) (rest : t.Links)
+    → None ≡ sum_base (Some name) (t.link operator at operand (t.link other other_at second rest))
+sum_longer name w.Plus at operand other other_at second rest = refl
+sum_longer name operator at operand other other_at second rest = refl
 
-pub arguments_end : (env : Env) (kinds : List ArgumentKind) (given : List t.Argument) (i : ℕ) (typed : List TypedArgument)
-    → length given ≡ length kinds → length given ≤ i
-    → ((more : List TypedArgument) → AreTypedArguments env (drop i kinds) (drop i given) (map pure_argument more) → AreTypedArguments env kinds given (map pure_argument (typed ++ more)))
-    → AreTypedArguments env kinds given (map pure_argument typed)
-arguments_end env kinds given i typed n past inv =
-    let P : List TypedArgument → Type 0 = λ all. AreTypedArguments env kinds given (map pure_argument all) in
-    let Q : List ArgumentKind → Type 0 = λ left. AreTypedArguments env left [] [] in
-    let R : List t.Argument → Type 0 = λ left. AreTypedArguments env (drop i kinds) left [] in
-    let k : length kinds ≤ i = omega arith in
-    subst P (append-nil typed) (inv [] (subst R (sym (drop_past given i past)) (subst Q (sym (drop_past kinds i k)) y.no_argument)))
+pub sum_many : (name : Option Span) (links : List Link) → 2 ≤ length links → None ≡ sum_base name (links_from (map piece links))
+sum_many name [] h = absurd (omega arith)
+sum_many name (a ∷ []) h = absurd (omega arith)
+sum_many None (a ∷ b ∷ rest) h = refl
+sum_many (Some name) (a ∷ b ∷ rest) h = sum_longer name _ _ _ _ _ _ _
 
--- ---- what a head takes
+-- a sum's reference, or what is no reference
+abbrev pub by_sum : Env → VariableKind → t.Expr → Option (Span × t.Expr) → Typing Reference
+by_sum env wanted e (Some sum) = both pure.from (array_typing env wanted sum.0 sum.0 (meaning env sum.0)) (int_typing env sum.1)
+by_sum env wanted e None = misfit_typing env (t.value e)
 
-pub kind_at : (parameters : List t.Parameter) (i : ℕ) (one : t.Parameter) → Some one ≡ slice_get parameters i
-    → slice_get (map parameter_takes parameters) i ≡ Some (parameter_takes one)
-kind_at parameters i one h = slice_get-map parameter_takes parameters i ∙ ap (option_map parameter_takes) (sym h)
+pub by_shape : (env : Env) (wanted : VariableKind) (e : t.Expr) → None ≡ name_alone e → reference_typing env wanted (t.value e) ≡ by_sum env wanted e (array_sum e)
+by_shape env wanted (t.read (t.whole name)) h = absurd (cc)
+by_shape env wanted (t.chain level (t.read (t.whole name)) (t.link w.Plus at operand t.no_link)) h = refl
+by_shape env wanted e h = refl
 
-none_given : (env : Env) (given : List t.Argument) → length given ≡ 0 → AreTypedArguments env [] given []
-none_given env [] h = y.no_argument
-none_given env (one ∷ more) h = absurd (omega arith)
+-- ---- lists
 
--- a function that is none of the text takes nothing
-pub no_arguments : (env : Env) (call : t.WrittenCall) (number : ℕ) (typed : List TypedArgument) → None ≡ slice_get env.functions number
-    → meaning env call.name ≡ m.Declared (d.Function number) → call_faults env call ≡ [] → typed ≡ []
-    → AreTypedArguments env (signature_takes (slice_get env.functions number)) (arguments_of call) (map pure_argument typed)
-no_arguments env call number typed n e h v =
-    let P : Option Signature → Type 0 = λ found. AreTypedArguments env (signature_takes found) (arguments_of call) (map pure_argument typed) in
-    let Q : Option Signature → Type 0 = λ found. length (arguments_of call) ≡ length (signature_takes found) in
-    let count : length (arguments_of call) ≡ 0 = subst Q (sym n) (text_fits env call number e h).count in
-    subst P n (rw v (none_given env (arguments_of call) count))
+-- what parameters behind commas take
+abbrev pub takes_behind : List (AfterComma Parameter) → List ArgumentKind
+takes_behind more = map parameter_takes (map (λ (behind : Span × t.Parameter). behind.1) (map (λ behind. (behind.comma, parameter_view behind.item)) more))
+
+-- arguments as they are lent
+abbrev pub given_view : List (Bor Argument) → List t.Argument
+given_view given = map (λ one. argument_view one.now) given
+
+pub arguments_left : (env : Env) (takes : List ArgumentKind) (given : List (Bor Argument)) (i : ℕ) (default : ArgumentKind) (one : Bor Argument)
+    → i < min (length takes) (length given) → one ≡ get_or given i one
+    → arguments_typing env (drop i takes) (given_view (drop i given))
+    ≡ both ◌∷◌ (argument_typing env (get_or takes i default) (argument_view one.now)) (arguments_typing env (drop (i + 1) takes) (given_view (drop (i + 1) given)))
+arguments_left env takes given i default one lt is =
+    let next : suc i ≡ i + 1 = omega arith in
+    rw (drop-cons takes i default (omega arith), next, drop_at given i one (omega arith) is) refl
+
+none_given : (env : Env) (takes : List ArgumentKind) → arguments_typing env takes [] ≡ typed []
+none_given env [] = refl
+none_given env (kind ∷ kinds) = refl
+
+pub no_arguments_left : (env : Env) (takes : List ArgumentKind) (given : List (Bor Argument)) (i : ℕ) → min (length takes) (length given) ≤ i
+    → arguments_typing env (drop i takes) (given_view (drop i given)) ≡ typed []
+no_arguments_left env [] given zero past = refl
+no_arguments_left env [] given (suc i) past = refl
+no_arguments_left env (kind ∷ kinds) [] zero past = refl
+no_arguments_left env (kind ∷ kinds) [] (suc i) past = none_given env (drop i kinds)
+no_arguments_left env (kind ∷ kinds) (one ∷ more) zero past = absurd (omega arith)
+no_arguments_left env (kind ∷ kinds) (one ∷ more) (suc i) past = no_arguments_left env kinds more i (omega arith)

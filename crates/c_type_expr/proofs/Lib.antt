@@ -1,7 +1,5 @@
-pub mod ExprRules
-pub mod ExprTypings
-pub mod ArgumentTypings
-pub mod CallRules
-pub mod Faultless
+pub mod Misfits
+pub mod WalkRules
 pub mod ArgumentRules
-pub mod Total
+pub mod Rows
+pub mod CallRules

@@ -13,20 +13,19 @@ use Rattle.c_names.specs.declared.predefined.Predefined.TheVariants as p
 use Rattle.c_program.specs.Tree as pure
 use Rattle.c_program.specs.Tree.{TypedArgument, TypedExpr, FunctionCall, TypedLinks, TypedPlace, Reference}
 use Rattle.c_program.specs.declared.expr.Field.{Field}
-use Rattle.c_check_expr.specs.Constants.{operator_of, unary_of}
-use Rattle.c_check_expr.specs.Expressions.{field_faults, operand_faults}
-use Rattle.c_check_expr.specs.Kinds.{first_token, is_same_kind, kind_faults, kind_of, place_first_token, place_kind}
-use Rattle.c_check_expr.specs.Literals.{literal_at}
-use Rattle.c_check_expr.specs.Scopes.{Env, meaning, token_bytes}
-use Rattle.c_check_expr.specs.Typing.{Typing, typed, also, behind, both, onto, refused, three, unfit}
-use Rattle.c_check_expr.specs.Variables.{variable}
-use Rattle.c_check_expr.specs.declared.meaning.ExprKind.{ExprKind}
-use Rattle.c_check_expr.specs.declared.meaning.ExprKind.TheVariants.{Of}
-use Rattle.c_check_expr.specs.declared.meaning.Meaning.{Meaning}
-use Rattle.c_check_expr.specs.declared.meaning.Meaning.TheVariants as m
-use Rattle.c_check_expr.specs.declared.meaning.Entity.TheVariants as d
-use Rattle.c_check.specs.Calls.{signature_takes}
-use Rattle.c_type_expr.specs.Exprs.{field_of}
+use Rattle.c_scope.specs.Constants.{operator_of, unary_of}
+use Rattle.c_type_expr.specs.Operands.{field_faults, operand_faults, field_of}
+use Rattle.c_scope.specs.Kinds.{first_token, is_same_kind, kind_faults, kind_of, place_first_token, place_kind}
+use Rattle.c_scope.specs.Literals.{literal_at}
+use Rattle.c_scope.specs.Scopes.{Env, meaning, token_bytes}
+use Rattle.c_scope.specs.Typing.{Typing, typed, also, behind, both, onto, refused, three, unfit}
+use Rattle.c_scope.specs.Variables.{variable}
+use Rattle.c_scope.specs.declared.meaning.ExprKind.{ExprKind}
+use Rattle.c_scope.specs.declared.meaning.ExprKind.TheVariants.{Of}
+use Rattle.c_scope.specs.declared.meaning.Meaning.{Meaning}
+use Rattle.c_scope.specs.declared.meaning.Meaning.TheVariants as m
+use Rattle.c_scope.specs.declared.meaning.Entity.TheVariants as d
+use Rattle.c_type_expr.specs.Calls.{signature_takes}
 
 -- ---- names
 

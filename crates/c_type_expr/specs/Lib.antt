@@ -1,5 +1,7 @@
-pub mod Shapes
-pub mod Exprs
+pub mod Operands
 pub mod Calls
-pub mod inside
+pub mod Shapes
 pub mod ExprTyping
+pub mod MpiTyping
+pub mod CallTyping
+pub mod inside

@@ -1,30 +1,25 @@
--- What arguments look like where they are expressions or references.
-use Rattle.std.specs.Prelude.{◌||◌, Bool, true, false, Option, Some, None}
-use Rattle.std.specs.Option.{is_some}
+-- What an argument is written as, where it may name cells.
+use Rattle.std.specs.Prelude.{Option, Some, None}
+use Rattle.c_grammar.specs.declared.terminal.Span.{Span}
+use Rattle.c_grammar.specs.declared.terminal.Symbol.TheVariants as w
 use Rattle.c_grammar.specs.Tree as t
-use Rattle.c_names.specs.declared.predefined.Predefined.{Predefined}
-use Rattle.c_names.specs.declared.predefined.Predefined.TheVariants as p
-use Rattle.c_check.specs.Calls.{array_sum, name_alone, predefined_of}
-use Rattle.c_check_expr.specs.Scopes.{Env}
 
-abbrev pub is_value : t.Argument → Bool
-is_value (t.value e) = true
-is_value _ = false
+-- the name that an expression is
+abbrev pub name_alone : t.Expr → Option Span
+name_alone (t.read (t.whole name)) = Some name
+name_alone _ = None
 
--- a name, or a sum of two whose first one is a name
-abbrev pub is_array : t.Expr → Bool
-is_array e = is_some (name_alone e) || is_some (array_sum e)
+-- the name that an argument is
+abbrev pub name_given : t.Argument → Option Span
+name_given (t.value e) = name_alone e
+name_given _ = None
 
-abbrev pub has_cells : t.Argument → Bool
-has_cells (t.text at) = false
-has_cells (t.address mark place) = true
-has_cells (t.value e) = is_array e
+-- a name, and the one operand that is added to it
+abbrev pub sum_base : Option Span → t.Links → Option (Span × t.Expr)
+sum_base (Some name) (t.link w.Plus at operand t.no_link) = Some (name, operand)
+sum_base _ _ = None
 
--- `NULL`, or what has cells and is no other predefined name
-abbrev pub is_reference_by : Option Predefined → t.Argument → Bool
-is_reference_by None argument = has_cells argument
-is_reference_by (Some p.NoReference) argument = true
-is_reference_by (Some _) argument = false
-
-abbrev pub is_reference : Env → t.Argument → Bool
-is_reference env argument = is_reference_by (predefined_of env argument) argument
+-- the name and the operand of a sum of two
+abbrev pub array_sum : t.Expr → Option (Span × t.Expr)
+array_sum (t.chain level first links) = sum_base (name_alone first) links
+array_sum _ = None

@@ -1,2 +1,2 @@
 -- What only the crate's own functions cite, by subjects.
-pub mod MpiArguments
+pub mod FormatTests

@@ -1,6 +1,11 @@
-//! The typed expressions and arguments of a C text without faults.
+//! The typed form of expressions, arguments, calls and right sides, or their faults.
 #![tactic(auto)]
 
-pub mod call_of;
-pub mod expr_of;
-pub mod results;
+pub mod argument;
+pub mod call;
+mod collective;
+pub mod expression;
+mod forms;
+mod mpi;
+mod mpi_arguments;
+mod point_to_point;

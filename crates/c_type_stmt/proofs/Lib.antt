@@ -1,6 +1,2 @@
-pub mod Growing
-pub mod SimpleRules
-pub mod StatementRules
-pub mod Total
-pub mod CallTypings
-pub mod StmtTypings
+pub mod Walks
+pub mod Closed

@@ -1,2 +1,3 @@
-pub mod Statements
+pub mod Assignments
+pub mod Declarations
 pub mod StmtTyping

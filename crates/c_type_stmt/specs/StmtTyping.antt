@@ -7,19 +7,19 @@ use Rattle.c_grammar.specs.Tree as t
 use Rattle.c_names.specs.declared.kind.VariableKind.{VariableKind}
 use Rattle.c_names.specs.declared.kind.VariableKind.TheVariants.{Int}
 use Rattle.c_program.specs.Tree as p
-use Rattle.c_check_expr.specs.Constants.{length_faults, length_of}
-use Rattle.c_check_expr.specs.Kinds.{kind_of_symbol, place_first_token}
-use Rattle.c_check_expr.specs.Least.{fault, fault_unless}
-use Rattle.c_check_expr.specs.Scopes.{Env, opened, token_bytes, twice_faults}
-use Rattle.c_check_expr.specs.Signatures.{listed}
-use Rattle.c_check_expr.specs.Typing.{Typing, typed, also, both, four, onto, three}
-use Rattle.c_check_expr.specs.declared.meaning.ExprKind.TheVariants.{Of, Nothing}
-use Rattle.c_check_expr.specs.declared.meaning.Entity.{Entity}
-use Rattle.c_check.specs.Calls.{right_first_token}
-use Rattle.c_check.specs.Statements.{after_item, after_part, after_start, begins_with, begun_takes, braces_faults, can_begin, declared_entity, is_plain_assign, is_assignable, is_int_lvalue, lvalue_kind, lvalue_takes}
+use Rattle.c_scope.specs.Constants.{length_faults, length_of}
+use Rattle.c_scope.specs.Kinds.{kind_of_symbol, place_first_token}
+use Rattle.c_scope.specs.Least.{fault, fault_unless}
+use Rattle.c_scope.specs.Scopes.{Env, opened, token_bytes, twice_faults}
+use Rattle.c_scope.specs.Signatures.{listed}
+use Rattle.c_scope.specs.Typing.{Typing, typed, also, both, four, onto, three}
+use Rattle.c_scope.specs.declared.meaning.ExprKind.TheVariants.{Of, Nothing}
+use Rattle.c_scope.specs.declared.meaning.Entity.{Entity}
+use Rattle.c_type_expr.specs.Calls.{right_first_token}
+use Rattle.c_type_stmt.specs.Declarations.{after_item, after_part, after_start, begins_with, begun_takes, braces_faults, can_begin, declared_entity}
+use Rattle.c_type_stmt.specs.Assignments.{is_plain_assign, is_assignable, is_int_lvalue, lvalue_kind, lvalue_takes, one, update_of}
 use Rattle.c_type_expr.specs.ExprTyping.{int_typing, place_typing}
-use Rattle.c_type_mpi.specs.CallTyping.{call_typing, right_typing}
-use Rattle.c_type_stmt.specs.Statements.{one, update_of}
+use Rattle.c_type_expr.specs.CallTyping.{call_typing, right_typing}
 
 -- ---- assignments and calls
 

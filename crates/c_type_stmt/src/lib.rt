@@ -1,5 +1,6 @@
-//! The typed declarations and statements of a C text without faults.
+//! The typed form of simple statements, declarations, statements and blocks, or their first fault.
 #![tactic(auto)]
 
-mod print_of;
-pub mod statement_of;
+pub mod declaration;
+pub mod simple;
+pub mod statement;

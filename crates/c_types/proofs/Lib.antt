@@ -1,7 +1,8 @@
-pub mod CheckRules
-pub mod ProgramRules
-pub mod OneTyping
-pub mod Total
-pub mod Always
-pub mod ProgramTypings
-pub mod CheckTypings
+pub mod Walks
+pub mod Definitions
+pub mod Names
+pub mod TextHeads
+pub mod ParameterLoops
+pub mod Functions
+pub mod Settled
+pub mod Laws

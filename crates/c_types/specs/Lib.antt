@@ -1,3 +1,4 @@
-pub mod Checks
 pub mod Programs
 pub mod ProgramTyping
+pub mod Checks
+pub mod inside

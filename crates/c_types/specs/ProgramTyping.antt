@@ -8,12 +8,11 @@ use Rattle.c_grammar.specs.Tree as t
 use Rattle.c_program.specs.Tree as p
 use Rattle.c_program.specs.declared.program.TypedParameter.{TypedParameter}
 use Rattle.c_program.specs.declared.program.ParameterKind.{ParameterKind}
-use Rattle.c_check_expr.specs.Scopes.{Env, opened, token_bytes, twice_faults}
-use Rattle.c_check_expr.specs.Signatures.{is_int_keyword, parameters_listed}
-use Rattle.c_check_expr.specs.Typing.{Typing, typed, faulty, also, both, onto, refused}
-use Rattle.c_check.specs.Programs.{after_external, after_parameter, after_parameters, external_twice_faults, heads_of, is_main, parameter_faults, parameter_name, prototype_faults, seen_after, text_env}
+use Rattle.c_scope.specs.Scopes.{Env, opened, token_bytes, twice_faults}
+use Rattle.c_scope.specs.Signatures.{is_int_keyword, parameters_listed}
+use Rattle.c_scope.specs.Typing.{Typing, typed, faulty, also, both, onto, refused}
+use Rattle.c_types.specs.Programs.{after_external, after_parameter, after_parameters, external_twice_faults, heads_of, is_main, parameter_faults, parameter_name, prototype_faults, seen_after, text_env, parameter_kind}
 use Rattle.c_type_stmt.specs.StmtTyping.{parts_typing}
-use Rattle.c_types.specs.Programs.{parameter_kind}
 
 -- ---- functions
 

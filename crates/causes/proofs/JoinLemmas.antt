@@ -1,62 +1,10 @@
 -- Joins of clocks.
-use Rattle.std.proofs.Common.{◌≡◌, ◌≢◌, ◌≤◌, ◌<◌, ◌+◌, ◌-◌, ◌⊎◌, ℕ, zero, suc, List, [], ◌∷◌, Some, None, true, inl, inr, refl, ap, sym, ◌∙◌, arith, drop, take, nat_lt, get_or, get_or-set_other, get_or-set_same, length, length-set, max, set, slice_get, subst}
-use Rattle.std.proofs.lemmas.Bool.{ltb-true}
+use Rattle.std.proofs.Common.{◌≡◌, ◌≤◌, ◌<◌, ◌-◌, ℕ, List, [], ◌∷◌, Some, None, true, inl, inr, refl, ap, sym, ◌∙◌, arith, drop, take, nat_lt, get_or, length, slice_get, subst}
+use Rattle.std.proofs.lemmas.Bool.{cases_lt, ltb-true}
 use Rattle.std.proofs.lemmas.List.{take_all}
-use Rattle.std.proofs.lemmas.Option.{slice_get-get_or}
-use Rattle.causes.specs.inside.Joins.{AreGreater, HasGreaterClock, IsJoinOfAll}
-
--- joined at the places below one
-pub record IsJoinedTo (i : ℕ) (old other mine : List ℕ) : Type 0 where
-  pub as_many : length mine ≡ length old
-  pub done : (r : ℕ) → r < i → get_or mine r 0 ≡ max (get_or old r 0) (get_or other r 0)
-  pub rest : (r : ℕ) → i ≤ r → get_or mine r 0 ≡ get_or old r 0
-
-pub joined_none : (old other : List ℕ) → IsJoinedTo 0 old other old
-joined_none old other = record { as_many = refl; done = λ r h. absurd (omega (arith, h)); rest = λ r h. refl }
-
-same_or_other : (a b : ℕ) → (a ≡ b) ⊎ (a ≢ b)
-same_or_other zero zero = inl refl
-same_or_other zero (suc b) = inr (λ e. absurd (omega (arith, e)))
-same_or_other (suc a) zero = inr (λ e. absurd (omega (arith, e)))
-same_or_other (suc a) (suc b) = elim (same_or_other a b) [ inl e ↦ inl (ap suc e) | inr ne ↦ inr (λ e. ne (omega (arith, e))) ]
-
-pub joined_more : (i : ℕ) (old other mine : List ℕ) (x : ℕ) → i < length mine → x ≡ max (get_or mine i 0) (get_or other i 0) → IsJoinedTo i old other mine → IsJoinedTo (i + 1) old other (set mine i x)
-joined_more i old other mine x low is to =
-    record {
-      as_many = length-set mine i x ∙ to.as_many;
-      done = λ r h. elim (same_or_other r i) [
-        | inl e ↦ (
-            let P : ℕ → Type 0 = λ k. get_or (set mine i x) k 0 ≡ max (get_or old k 0) (get_or other k 0) in
-            subst P (sym e) (get_or-set_same mine i x 0 low ∙ is ∙ ap (λ m. max m (get_or other i 0)) (to.rest i (omega arith))))
-        | inr ne ↦ get_or-set_other mine i r x 0 ne ∙ to.done r (omega (arith, h, ne))
-      ];
-      rest = λ r h. get_or-set_other mine i r x 0 (λ e. omega (arith, e, h)) ∙ to.rest r (omega (arith, h));
-    }
-
-get_past : (xs : List ℕ) (k : ℕ) → length xs ≤ k → get_or xs k 0 ≡ 0
-get_past [] k h = refl
-get_past (x ∷ xs) zero h = absurd (omega (arith, h))
-get_past (x ∷ xs) (suc k) h = get_past xs k (omega (arith, h))
-
-below_or : (a b : ℕ) → (a < b) ⊎ (b ≤ a)
-below_or a zero = inr (omega arith)
-below_or zero (suc b) = inl (omega arith)
-below_or (suc a) (suc b) = elim (below_or a b) [ inl h ↦ inl (omega (arith, h)) | inr h ↦ inr (omega (arith, h)) ]
-
-pub joined_all : (i : ℕ) (old other mine : List ℕ) → i ≡ length other → length other ≡ length old → IsJoinedTo i old other mine → AreGreater old other mine
-joined_all i old other mine all wide to =
-    record {
-      as_many = to.as_many;
-      each = λ r. elim (below_or r i) [
-        | inl low ↦ to.done r low
-        | inr high ↦ (
-            let many = to.as_many in
-            let a = get_past mine r (omega (arith, all, wide, many, high)) in
-            let b = get_past old r (omega (arith, all, wide, high)) in
-            let c = get_past other r (omega (arith, all, high)) in
-            omega (arith, a, b, c))
-      ];
-    }
+use Rattle.std.proofs.lemmas.Option.{slice_get-get_or, slice_get_past}
+use Rattle.rank_counts.specs.Greater.{AreGreater}
+use Rattle.causes.specs.inside.Joins.{HasGreaterClock, IsJoinOfAll}
 
 -- the join with one clock, with none, and with more
 pub join_one : (old other new : List ℕ) (clocks : List (List ℕ)) (at : ℕ) → slice_get clocks at ≡ Some other → AreGreater old other new → IsJoinOfAll old clocks (at ∷ []) new
@@ -65,7 +13,7 @@ join_one old other new clocks at there greater =
       as_many = greater.as_many;
       from = λ rank count above.
           let is = greater.each rank in
-          elim (below_or count (get_or old rank 0)) [
+          elim (cases_lt count (get_or old rank 0)) [
             | inl low ↦ inl low
             | inr high ↦ inr (record { at = at; clock = other; placed = inl refl; there = there; above = omega (arith, is, above, high) })
           ];
@@ -146,14 +94,9 @@ joins_end old clocks [] short = join_nothing old clocks
 joins_end old clocks (x ∷ xs) short = absurd (omega (arith, short))
 
 -- the same, in the words of a look-up
-get_none : {A : Type 0} (xs : List A) (k : ℕ) → length xs ≤ k → slice_get xs k ≡ None
-get_none [] k h = refl
-get_none (x ∷ xs) zero h = absurd (omega (arith, h))
-get_none (x ∷ xs) (suc k) h = get_none xs k (omega (arith, h))
-
 pub join_found : (old other new : List ℕ) (clocks : List (List ℕ)) (at : ℕ) → true ≡ nat_lt at (length clocks) → other ≡ get_or clocks at other → AreGreater old other new → IsJoinOfAll old clocks (at ∷ []) new
 join_found old other new clocks at there is greater =
     join_one old other new clocks at (slice_get-get_or clocks at other (ltb-true at (length clocks) (sym there)) ∙ ap Some (sym is)) greater
 
 pub join_past : (old : List ℕ) (clocks : List (List ℕ)) (at : ℕ) → length clocks ≤ at → IsJoinOfAll old clocks (at ∷ []) old
-join_past old clocks at past = join_none old clocks at (get_none clocks at past)
+join_past old clocks at past = join_none old clocks at (slice_get_past clocks at past)

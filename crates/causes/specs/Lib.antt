@@ -2,6 +2,7 @@ pub mod Positions
 pub mod Steps
 pub mod Before
 pub mod Keys
+pub mod PositionTables
 pub mod Tables
 pub mod Beside
 pub mod Clocks

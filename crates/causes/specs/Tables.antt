@@ -8,20 +8,16 @@ use Rattle.run_model.specs.Communicators.{known_after, or_members}
 use Rattle.run_model.specs.Views.{is_start, view_of}
 use Rattle.causes.specs.declared.key.Key.{Key}
 use Rattle.causes.specs.Keys.{enters_key, events_key, mates_key, same_key, starts_key}
+use Rattle.causes.specs.PositionTables.{AddsPositionBy, positions_by}
 use Rattle.causes.specs.Positions.{is_enter_of, is_mate_of, is_event_of, is_start_of, positions}
-
--- no positions where there is no list
-abbrev pub or_no_positions : Option (List ℕ) → List ℕ
-or_no_positions None = []
-or_no_positions (Some places) = places
 
 -- the positions that a table has for a key
 abbrev pub positions_of_key : List (Key × List ℕ) → Key → List ℕ
-positions_of_key table key = or_no_positions (lookup (same_key key) table)
+positions_of_key = positions_by same_key
 
 -- one position more for the keys that pass a test, and none more for another
 abbrev pub AddsPosition : (Key → Bool) → ℕ → List (Key × List ℕ) → List (Key × List ℕ) → Type 0
-AddsPosition test at old new = (key : Key) → positions_of_key new key ≡ (if test key then positions_of_key old key ++ at ∷ [] else positions_of_key old key)
+AddsPosition = AddsPositionBy same_key
 
 -- the positions of each rank's events, starts and Enters, and of the later starts of pairs
 pub record IsPlaceTable (events : List Event) (table : List (Key × List ℕ)) : Type 0 where

@@ -7,9 +7,9 @@ ghost use Rattle.causes.specs.Clocks.{AreClocks, AreOfRanks, IsClock, TellsBefor
 ghost use Rattle.causes.specs.inside.Seen.{IsSeenByCauses};
 ghost use Rattle.causes.specs.Positions.{next_number, is_event_of, is_start_of, positions};
 
-use crate::clock::Clock;
-use crate::key::{events_key, starts_key};
-use crate::places::PositionTable;
+use crate::clock::{Clock, join_all};
+use crate::key::{Key, events_key, starts_key};
+use crate::position_table::PositionTable;
 use crate::positions::Positions;
 use crate::rests::push_rests;
 use crate::tables::Tables;
@@ -26,7 +26,7 @@ pub struct Causes<'a> {
     /// The number of each event among its rank's events.
     numbers: Vec<u32>,
     /// Positions of events by keys.
-    places: PositionTable,
+    places: PositionTable<Key>,
 }
 
 impl<'a> Model for Causes<'a> {
@@ -184,8 +184,8 @@ fn clock_of(
     let mut places = Positions::new(alloc);
     places.push_some(tables.places.get(&events_key(event.rank)).last().copied())?;
     push_rests(&mut places, before, tables, event)?;
-    let mut clock = Clock::new(alloc, tables.ranks)?;
-    clock.join_all(clocks, places.as_slice());
+    let mut clock = Clock::new(alloc, tables.ranks as usize)?;
+    join_all(&mut clock, clocks, places.as_slice());
     clock.set(event.rank, number_of(tables, before, event.rank) + 1);
     Ok(clock)
 }

@@ -6,6 +6,7 @@ mod clock;
 pub mod key;
 mod known;
 pub mod places;
+pub mod position_table;
 pub mod positions;
 pub mod rests;
 pub mod tables;

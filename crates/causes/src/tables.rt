@@ -6,9 +6,10 @@ ghost use Rattle.run_model.specs.Views.{view_of};
 ghost use Rattle.causes.specs.Beside.{AreTables};
 ghost use Rattle.causes.specs.Positions.{enter_position, enter_instance_at, positions, is_mate_of, start_position};
 
-use crate::key::{enters_key, mates_key, starts_key};
+use crate::key::{Key, enters_key, mates_key, starts_key};
 use crate::known::KnownMembers;
-use crate::places::{PositionTable, count_below};
+use crate::places::count_below;
+use crate::position_table::PositionTable;
 use mpi_call::call::Comm;
 use mpi_call::lists::Ranks;
 use run_model::event::Event;
@@ -20,7 +21,7 @@ use std::alloc::{AllocError, Global};
 pub struct Tables {
     pub ranks: u8,
     /// Positions of events by keys.
-    pub places: PositionTable,
+    pub places: PositionTable<Key>,
     /// The communicators that each rank knows by its replies.
     pub known: KnownMembers,
     /// All ranks.

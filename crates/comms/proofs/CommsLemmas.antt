@@ -2,11 +2,10 @@
 use Rattle.std.proofs.Common.{◌≡◌, ◌≢◌, ℕ, zero, suc, ◌+◌, ◌<◌, ◌≤◌, ℤ, List, [], ◌∷◌, ◌++◌, length, get_or, map, Bool, true, false, ◌&&◌, cond, refl, sym, inl, inr, ap, ap₂, ◌∙◌, arith, Option, Some, None}
 use Rattle.std.proofs.lemmas.Bool.{cases_Bool, eqb-true, ltb-true}
 use Rattle.std.proofs.lemmas.List.{length-map}
-use Rattle.std.proofs.lemmas.List.FromFn.{length-range_with_len}
 use Rattle.std.specs.BTreeMap.{is_at}
 use Rattle.std.specs.declared.cmp.Ordering.{Ordering}
 use Rattle.std.specs.declared.cmp.Ordering.TheVariants.{Less, Equal, Greater}
-use Rattle.std.specs.List.{range_with_len, zip}
+use Rattle.std.specs.List.{zip}
 use Rattle.std.specs.Map.{lookup}
 use Rattle.std.specs.Ordering.{int_eq, is_eq, nat_cmp, ordering_then}
 use Rattle.std.specs.Prelude.{◌==◌, nat_lt, option_map, slice_index}
@@ -14,7 +13,8 @@ use Rattle.mpi_call.proofs.NeedsLemmas.{eqb-sym}
 use Rattle.mpi_call.specs.Made.{by_key, key_in, of_colour, split_into}
 use Rattle.mpi_call.specs.Members.{place_of}
 use Rattle.mpi_call.specs.Needs.{colour_in}
-use Rattle.mpi_call.proofs.FoldLemmas.{range_with_len-more}
+use Rattle.run_model.specs.Lists.{world}
+use Rattle.run_model.proofs.CommunicatorLaws.{length-world}
 use Rattle.comms.proofs.ColourLemmas.{length-by_key, length-colours_of, length-part}
 use Rattle.comms.specs.Colours.{colours_of}
 use Rattle.comms.specs.Communicators.{given_in, number_given_to, AreColoursOf, HaveFewMembers, Communicators, Makes}
@@ -80,11 +80,11 @@ number_missed seen entries comm instance rank missed is_given =
     ap (option_map (λ (numbers : List ℕ). slice_index numbers (place_of (get_or seen.members comm []) rank))) there
 
 -- how many members there are
-pub small_world : (ranks : ℕ) → ranks ≤ 255 → HaveFewMembers (range_with_len 0 ranks ∷ [])
+pub small_world : (ranks : ℕ) → ranks ≤ 255 → HaveFewMembers (world ranks 0 ∷ [])
 small_world ranks few = record { at = at }
   where
-    at : (comm : ℕ) → length (get_or (range_with_len 0 ranks ∷ []) comm []) ≤ 255
-    at zero = (let long : length (range_with_len 0 ranks) ≡ ranks = length-range_with_len 0 ranks in omega arith)
+    at : (comm : ℕ) → length (get_or (world ranks 0 ∷ []) comm []) ≤ 255
+    at zero = (let long : length (world ranks 0) ≡ ranks = length-world ranks 0 in omega arith)
     at (suc comm) = omega arith
 
 pub small_append : (old made : List (List ℕ)) → HaveFewMembers old → HaveFewMembers made → HaveFewMembers (old ++ made)
@@ -132,10 +132,3 @@ numbers_fit first colours inputs members low is pairs few =
     let some : length (colours_of inputs) ≤ length inputs = length-colours_of inputs in
     let same : length colours ≡ length (colours_of inputs) = ap length is in
     omega (arith, pairs.as_many)
-
--- one more rank
-pub ranks_more : (n : ℕ) → range_with_len 0 (n + 1) ≡ range_with_len 0 n ++ n ∷ []
-ranks_more n =
-    let one : n + 1 ≡ suc n = omega arith in
-    let from : 0 + n ≡ n = omega arith in
-    ap (range_with_len 0) one ∙ (range_with_len-more 0 n ∙ ap (λ (k : ℕ). range_with_len 0 n ++ k ∷ []) from)

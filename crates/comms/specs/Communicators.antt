@@ -1,8 +1,9 @@
 -- The communicators of a run, by number; 0 is the world.
 -- (MPI 3.1, Groups, Contexts, Communicators, and Caching, "Communicator Management".)
 use Rattle.std.specs.Prelude.{◌≡◌, ℕ, ◌≤◌, ◌<◌, ℤ, List, [], ◌∷◌, ◌++◌, length, ◌&&◌, ◌==◌, if◌then◌else◌, Option, None, Some, option_map, replicate, slice_get, slice_index}
-use Rattle.std.specs.List.{range_with_len, slice_index_or}
+use Rattle.std.specs.List.{slice_index_or}
 use Rattle.mpi_call.specs.Members.{place_of}
+use Rattle.run_model.specs.Lists.{world}
 use Rattle.comms.specs.Colours.{split_members, split_numbers}
 
 -- the members of each communicator, and for each instance of a Split or Dup, by communicator and instance, the communicator
@@ -13,7 +14,7 @@ pub record Communicators : Type 0 where
 
 -- the world of n ranks alone
 abbrev pub world_alone : ℕ → Communicators
-world_alone n = record { members = range_with_len 0 n ∷ []; given = [] }
+world_alone n = record { members = world n 0 ∷ []; given = [] }
 
 -- a communicator's members, if it was made
 abbrev pub members_of : Communicators → ℕ → Option (List ℕ)

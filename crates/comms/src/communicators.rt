@@ -1,7 +1,7 @@
 //! The communicators by number.
 ghost use Rattle.std.specs.Prelude.{◌≡◌, ◌+◌, ◌<◌, ◌≤◌, ◌∷◌, [], length, IfOk, IsNone, OnErr, OnOk};
 ghost use Rattle.std.specs.Option.{option_copied};
-ghost use Rattle.std.specs.List.{range_with_len, slice_index_or};
+ghost use Rattle.std.specs.List.{slice_index_or};
 ghost use Rattle.mpi_call.specs.Members.{place_of};
 ghost use Rattle.comms.specs.declared.communicators.TheConstants.{MOST_COMMUNICATORS};
 ghost use Rattle.comms.specs.Communicators.{given_in, members_of, number_given_to, world_alone, old_members, AreColoursOf, HaveFewMembers, IsDup, MakesByColour, Makes};
@@ -12,6 +12,7 @@ use crate::numbers::Numbers;
 use mpi_call::call::Comm;
 use mpi_call::lists::{Inputs, Ranks};
 use mpi_call::members::place_of;
+use run_model::lists::all_ranks;
 use std::alloc::{AllocError, Global};
 use std::collections::BTreeMap;
 use std::marker::Model;
@@ -143,15 +144,4 @@ fn place_in(members: &[Ranks], comm: Comm, rank: u8) -> usize
         Some(ranks) => place_of(ranks.as_slice(), rank),
         None => 0,
     }
-}
-
-/// The ranks below `ranks`.
-fn all_ranks(alloc: Global, ranks: u8) -> Result<Ranks, AllocError>
-    ensures { IfOk result (λ all. all ≡ range_with_len 0 ranks) }
-{
-    let mut all = Ranks::new(alloc);
-    for rank in 0..ranks {
-        all.push(rank)?;
-    }
-    Ok(all)
 }

@@ -103,7 +103,7 @@ comes_to next output n planned text groups turns recording outcome lawful many i
     record {
       run = run;
       picks = recording.picks.written;
-      taken = here.made;
+      taken = here.in_turns.taken;
       picked = here.recorded.picked;
       outcome_is = told ∙ told_is next output n run lawful here.recorded.picked.run;
     }

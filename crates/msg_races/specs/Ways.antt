@@ -1,6 +1,5 @@
 -- Where Sends go, and the positions of the Sends that go a way.
 use Rattle.std.specs.Prelude.{◌≡◌, ◌&&◌, ◌==◌, ℕ, Bool, List, Option, Some, None, nat_eq}
-use Rattle.std.specs.Map.{lookup}
 use Rattle.std.specs.Option.{option_eq}
 use Rattle.std.specs.Ordering.{eq_of_both, on}
 use Rattle.mpi_call.specs.declared.call.Source.TheVariants.{Any}
@@ -10,7 +9,7 @@ use Rattle.mpi_call.specs.Acceptance.{accepts}
 use Rattle.run_model.specs.declared.event.Event.{Event}
 use Rattle.run_model.specs.Views.{is_start}
 use Rattle.causes.specs.Positions.{positions}
-use Rattle.causes.specs.Tables.{or_no_positions}
+use Rattle.causes.specs.PositionTables.{positions_by}
 use Rattle.msg_races.specs.declared.sends.Way.{Way}
 
 -- all parts of two ways are equal
@@ -33,7 +32,7 @@ goes_way way event =
 
 -- the positions that a table has for a way
 abbrev pub sent_at : List (Way × List ℕ) → Way → List ℕ
-sent_at table way = or_no_positions (lookup (same_way way) table)
+sent_at = positions_by same_way
 
 -- the positions of the Sends of these events, by their ways
 pub record AreSends (events : List Event) (table : List (Way × List ℕ)) : Type 0 where

@@ -9,7 +9,7 @@ ghost use Rattle.msg_races.specs.Ways.{AreSends};
 use crate::arrival::{self, Arrival, way_from};
 use crate::completions::Completions;
 use crate::names::{Name, Names};
-use crate::sends::Sends;
+use crate::sends::{Sends, note_send};
 use causes::causes::Causes;
 use causes::places::count_below;
 use run_model::event::Event;
@@ -34,7 +34,7 @@ pub fn see<'a>(alloc: Global, ranks: u8, events: &'a [Event]) -> Result<SeenHist
     let mut sends = Sends::new(alloc);
     let mut completions = Completions::new(alloc);
     for (at, event) in events.iter().enumerate() {
-        sends.note(&events[..at], event)?;
+        note_send(&mut sends, &events[..at], event)?;
         completions.note(&events[..at], event)?;
     }
     Ok(SeenHistory {

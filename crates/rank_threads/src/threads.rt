@@ -1,6 +1,6 @@
 //! Whole recordings and replays, each rank on a thread of its own where the system gives one. Where it gives none the caller does that
 //! rank's work itself, so nothing is refused for want of threads. Nothing is said of waiting, fairness or time.
-ghost use Rattle.std.specs.Prelude.{◌≡◌, ◌<◌, ◌≤◌, [], ℕ, List, IfOk, length, slice_index};
+ghost use Rattle.std.specs.Prelude.{◌≡◌, [], ℕ, List, IfOk};
 ghost use Rattle.group_plan.specs.Plans.{number_of_ranks};
 ghost use Rattle.run_model.specs.declared.event.Event.{Event};
 ghost use Rattle.run_model.specs.Views.{view_of};
@@ -17,6 +17,7 @@ use crate::rounds::run;
 use group_plan::Plan;
 use mpi_machine::machine::Machine;
 use replay_model::replayed::Replayed;
+use run_model::lists::all_ranks;
 use run_model::program::{Program, RankRun};
 use srr_entry::log::Log;
 use srr_record::recording::Recording;
@@ -48,7 +49,7 @@ pub fn record_threads<
     requires runs { AreRuns R.standing program.now (number_of_ranks plan.now) [] runs.items }
     ensures { IfOk result (λ recording. IsRecorded (P.next program.now) (P.output program.now) (number_of_ranks plan.now) text.now plan.now recording) }
 {
-    let ranks = ranks_below(alloc, plan.n())?;
+    let ranks = all_ranks(alloc, plan.n())?;
     let machine = Box::new(alloc, Machine::new(alloc, program, plan.n())?)?;
     let recorder = Recorder {
         machine,
@@ -57,18 +58,6 @@ pub fn record_threads<
     let (recorder, runs) = run(rt, alloc, recorder, ranks.as_slice(), runs, true, gate)?;
     let Recorder { machine, .. } = recorder;
     finish_record(alloc, Box::into_inner(machine), text, plan, runs)
-}
-
-/// The ranks below n.
-fn ranks_below(alloc: Global, n: u8) -> Result<Vec<u8>, AllocError>
-    ensures count { IfOk result (λ v. length v.items ≡ n) }
-    ensures each { IfOk result (λ v. (k : ℕ) → k < n → slice_index v.items k ≡ k) }
-{
-    let mut ranks = Vec::with_capacity(alloc, n as usize)?;
-    for rank in 0..n {
-        ranks.push(rank)?;
-    }
-    Ok(ranks)
 }
 
 /// Replays a log's group on threads, up to the breakpoint (a rank, and the number of its call) if there is one. Run k is the k-th rank

@@ -9,10 +9,9 @@ use Rattle.mpi_call.specs.declared.reply.Item.{Item}
 use Rattle.mpi_call.specs.declared.reply.Reply.{Reply}
 use Rattle.mpi_call.specs.declared.reply.Reply.TheVariants.{Done, Took, NotYet, Peeked, Stopped}
 use Rattle.mpi_call.specs.Calls.{comm_of, listed_by}
-use Rattle.mpi_call.specs.Collectives.{members_made, result_of}
 use Rattle.run_model.specs.Views.{View, start_at}
-use Rattle.run_model.specs.Communicators.{instance_of, members_for_rank}
-use Rattle.run_model.specs.Inputs.{inputs_of}
+use Rattle.run_model.specs.Communicators.{instance_of}
+use Rattle.run_model.specs.Inputs.{communicator_for_rank, inputs_of, result_for_rank}
 use Rattle.srr_entry.specs.declared.entry.Mark.{Mark}
 use Rattle.srr_entry.specs.declared.entry.Mark.TheVariants.{Sent as MarkSent, Nothing as MarkNothing, Inside, Outside, Inner, Outer, Made as MarkMade, MadeOutside}
 use Rattle.srr_entry.specs.declared.entry.Marked.{Marked}
@@ -23,7 +22,7 @@ use Rattle.replay_model.specs.declared.step.Missing.TheVariants.{Start, Member}
 
 -- a collective's result and a new communicator, from the inputs of the members that are needed
 abbrev pub joined_result : ℕ → ℕ → View → ℕ → Call → Result (List (List ℤ)) ℕ → Result Got Missing
-joined_result n me own k enter (Ok inputs) = Ok (Joined (result_of enter (members_for_rank n own (comm_of enter)) inputs me))
+joined_result n me own k enter (Ok inputs) = Ok (result_for_rank n me own enter inputs)
 joined_result n me own k enter (Err m) = Err (Member m (comm_of enter) (instance_of own k (comm_of enter)))
 
 -- a rank that asks: how many ranks there are, the rank, and what it has seen
@@ -38,7 +37,7 @@ asker_of n me own = record { ranks = n; me = me; own = own }
 
 -- the new communicator with this number that the asking rank's start k gave it
 abbrev pub made_new : ℕ → Asker → ℕ → Call → Result (List (List ℤ)) ℕ → Result Got Missing
-made_new comm asker k enter (Ok inputs) = Ok (Made comm (members_made enter (members_for_rank asker.ranks asker.own (comm_of enter)) inputs asker.me))
+made_new comm asker k enter (Ok inputs) = Ok (communicator_for_rank comm asker.ranks asker.me asker.own enter inputs)
 made_new comm asker k enter (Err m) = Err (Member m (comm_of enter) (instance_of asker.own k (comm_of enter)))
 
 -- the message of a named start. Where that start is no Send any value serves: the entry breaks on it.

@@ -20,7 +20,7 @@ use crate::tracing::{Tracing, trace};
 use causes::causes::Causes;
 use mpi_call::call::{Call, Source};
 use mpi_call::reply::Reply;
-use msg_races::sends::Sends;
+use msg_races::sends::{Sends, note_send};
 use run_model::event::Event;
 use std::alloc::{AllocError, Global};
 
@@ -51,7 +51,7 @@ fn sends_of(alloc: Global, events: &[Event]) -> Result<Sends, AllocError>
 {
     let mut sends = Sends::new(alloc);
     for (at, event) in events.iter().enumerate() {
-        sends.note(&events[..at], event)?;
+        note_send(&mut sends, &events[..at], event)?;
     }
     Ok(sends)
 }

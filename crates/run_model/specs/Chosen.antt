@@ -7,17 +7,16 @@ use Rattle.mpi_call.specs.declared.call.Halt.TheVariants.{Stuck}
 use Rattle.mpi_call.specs.declared.call.Source.TheVariants.{Null}
 use Rattle.mpi_call.specs.declared.call.TakeMode.{TakeMode}
 use Rattle.mpi_call.specs.declared.reply.Got.{Got}
-use Rattle.mpi_call.specs.declared.reply.Got.TheVariants.{Sent, Nothing, Message, Joined, Made}
+use Rattle.mpi_call.specs.declared.reply.Got.TheVariants.{Sent, Nothing, Message, Made}
 use Rattle.mpi_call.specs.declared.reply.Item.{Item}
 use Rattle.mpi_call.specs.declared.reply.Reply.{Reply}
 use Rattle.mpi_call.specs.declared.reply.Reply.TheVariants.{Done, NotYet, Peeked, Stopped}
-use Rattle.mpi_call.specs.Calls.{comm_of, makes}
-use Rattle.mpi_call.specs.Collectives.{is_uncoloured, members_made, result_of}
+use Rattle.mpi_call.specs.Calls.{makes}
+use Rattle.mpi_call.specs.Collectives.{is_uncoloured}
 use Rattle.run_model.specs.declared.event.Event.{Event}
 use Rattle.run_model.specs.Lists.{Along}
 use Rattle.run_model.specs.Views.{Moment, View, Next, moment_of, view_of, start_at}
-use Rattle.run_model.specs.Communicators.{members_for_rank}
-use Rattle.run_model.specs.Inputs.{inputs_of}
+use Rattle.run_model.specs.Inputs.{communicator_for_rank, inputs_of, result_for_rank}
 use Rattle.run_model.specs.Pairs.{Name, name_at, named, pairs_of, partner_of}
 use Rattle.run_model.specs.Shape.{is_test}
 use Rattle.run_model.specs.Allowed.{first_long, flags_of, mode_holds, taken_reply}
@@ -40,10 +39,8 @@ message_of before (Some send) = message_of_pair send (named before send)
 abbrev pub collected_by : Bool → Bool → Moment → ℕ → Call → List (List ℤ) → Got
 collected_by true true moment k enter inputs = Made 0 []
 collected_by true false moment k enter inputs =
-    Made (number_among (communicators_of moment.ranks moment.before) (origin_of moment.own k enter))
-    (members_made enter (members_for_rank moment.ranks moment.own (comm_of enter)) inputs moment.me)
-collected_by false uncoloured moment k enter inputs =
-    Joined (result_of enter (members_for_rank moment.ranks moment.own (comm_of enter)) inputs moment.me)
+    communicator_for_rank (number_among (communicators_of moment.ranks moment.before) (origin_of moment.own k enter)) moment.ranks moment.me moment.own enter inputs
+collected_by false uncoloured moment k enter inputs = result_for_rank moment.ranks moment.me moment.own enter inputs
 
 -- what a collective gives, once those that it needs have entered
 abbrev pub collected : Moment → ℕ → Call → Result (List (List ℤ)) ℕ → Got

@@ -3,7 +3,9 @@
 use Rattle.std.specs.Prelude.{ℕ, ℤ, List, [], ◌∷◌, Option, Some, None, Bool, true, false, if◌then◌else◌, Result, Ok, Err}
 use Rattle.mpi_call.specs.declared.call.Call.{Call}
 use Rattle.mpi_call.specs.Calls.{comm_of, ints_of}
-use Rattle.mpi_call.specs.Collectives.{needs}
+use Rattle.mpi_call.specs.declared.reply.Got.{Got}
+use Rattle.mpi_call.specs.declared.reply.Got.TheVariants.{Joined, Made}
+use Rattle.mpi_call.specs.Collectives.{members_made, needs, result_of}
 use Rattle.run_model.specs.Views.{View}
 use Rattle.run_model.specs.Communicators.{Entered, enter_at, instance_of, members_for_rank}
 
@@ -34,3 +36,11 @@ inputs_of n V me own k enter =
 abbrev pub is_gathered : Result (List (List ℤ)) ℕ → Bool
 is_gathered (Ok inputs) = true
 is_gathered (Err m) = false
+
+-- what a collective gives a rank, from the inputs: its result
+abbrev pub result_for_rank : ℕ → ℕ → View → Call → List (List ℤ) → Got
+result_for_rank n me own enter inputs = Joined (result_of enter (members_for_rank n own (comm_of enter)) inputs me)
+
+-- or the new communicator with this number
+abbrev pub communicator_for_rank : ℕ → ℕ → ℕ → View → Call → List (List ℤ) → Got
+communicator_for_rank comm n me own enter inputs = Made comm (members_made enter (members_for_rank n own (comm_of enter)) inputs me)

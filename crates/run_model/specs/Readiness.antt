@@ -5,14 +5,13 @@ use Rattle.mpi_call.specs.declared.call.Call.{Call}
 use Rattle.mpi_call.specs.declared.call.Call.TheVariants.{Send, Post, Enter}
 use Rattle.mpi_call.specs.declared.call.Source.TheVariants.{Null}
 use Rattle.mpi_call.specs.declared.reply.Got.{Got}
-use Rattle.mpi_call.specs.declared.reply.Got.TheVariants.{Sent, Nothing, Message, Joined, Made}
+use Rattle.mpi_call.specs.declared.reply.Got.TheVariants.{Sent, Nothing, Message, Made}
 use Rattle.mpi_call.specs.declared.reply.Item.{Item}
-use Rattle.mpi_call.specs.Calls.{comm_of, makes}
-use Rattle.mpi_call.specs.Collectives.{is_uncoloured, members_made, result_of}
+use Rattle.mpi_call.specs.Calls.{makes}
+use Rattle.mpi_call.specs.Collectives.{is_uncoloured}
 use Rattle.run_model.specs.declared.event.Event.{Event}
 use Rattle.run_model.specs.Views.{Moment, View, view_of, start_at}
-use Rattle.run_model.specs.Communicators.{members_for_rank}
-use Rattle.run_model.specs.Inputs.{inputs_of, is_gathered}
+use Rattle.run_model.specs.Inputs.{communicator_for_rank, inputs_of, is_gathered, result_for_rank}
 use Rattle.run_model.specs.Pairs.{Name, named, pairs_of, partner_of}
 
 -- start k of rank `me`. A standard send is always buffered, so it is ready at once; a synchronous send (`sync`) is ready when
@@ -44,14 +43,13 @@ pub record IsMessage (before : List Event) (me k : ℕ) (got : Got) : Type 0 whe
 pub record IsMadeCommunicator (n : ℕ) (me : ℕ) (own : View) (enter : Call) (inputs : List (List ℤ)) (got : Got) : Type 0 where
   pub comm : ℕ
   pub is_new : (comm == 0) ≡ false
-  pub got_is : got ≡ Made comm (members_made enter (members_for_rank n own (comm_of enter)) inputs me)
+  pub got_is : got ≡ communicator_for_rank comm n me own enter inputs
 
 -- by whether the collective makes a communicator, and whether its colour is undefined
 abbrev pub IsFrom : Bool → Bool → ℕ → ℕ → View → Call → List (List ℤ) → Got → Type 0
 IsFrom true true n me own enter inputs got = got ≡ Made 0 []
 IsFrom true false n me own enter inputs got = IsMadeCommunicator n me own enter inputs got
-IsFrom false uncoloured n me own enter inputs got =
-    got ≡ Joined (result_of enter (members_for_rank n own (comm_of enter)) inputs me)
+IsFrom false uncoloured n me own enter inputs got = got ≡ result_for_rank n me own enter inputs
 
 -- the result of a collective, from what the members entered
 pub record IsCollected (moment : Moment) (k : ℕ) (enter : Call) (got : Got) : Type 0 where

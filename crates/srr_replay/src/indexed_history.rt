@@ -8,10 +8,10 @@ ghost use Rattle.view_tables.specs.EnterTable.{AreEntersKnown};
 ghost use Rattle.srr_replay.specs.inside.IndexedHistory.{entered_of};
 ghost use Rattle.view_tables.specs.StartTable.{TakesMade};
 
-use crate::counts::RankCounts;
 use crate::note::prepare;
 use mpi_call::call::{Call, Comm};
 use mpi_call::lists::Ranks;
+use rank_counts::RankCounts;
 use run_model::event::Event;
 use run_model::history::History;
 use run_model::lists::all_ranks;
@@ -69,7 +69,7 @@ impl IndexedHistory {
     pub fn new(alloc: Global, ranks: u8) -> Result<Self, AllocError>
         ensures { IfOk result (λ seen. seen ≡ record { ranks = ranks; events = [] }) }
     {
-        let counts = RankCounts::new(alloc, ranks)?;
+        let counts = RankCounts::new(alloc, ranks as usize)?;
         let starts = StartTable::new(alloc, ranks)?;
         let enters = EnterTable::new(alloc, ranks)?;
         let members = MemberTable::new(alloc, ranks)?;

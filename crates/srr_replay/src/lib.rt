@@ -3,7 +3,6 @@
 
 mod answer;
 mod clash;
-mod counts;
 mod fill;
 mod find;
 mod fit;

@@ -16,6 +16,7 @@ use Rattle.wait_graph.specs.declared.graph.Blocked.{Blocked}
 use Rattle.wait_graph.specs.declared.graph.Graph.{Graph}
 use Rattle.wait_graph.specs.declared.wait.Wait.{Wait}
 use Rattle.wiz_base.specs.Decimals.{decimal_text}
+use Rattle.svg_text.specs.declared.endings.TheConstants.{MOST_CYCLES}
 use Rattle.svg_text.specs.declared.endings.Arc.{Arc}
 use Rattle.svg_text.specs.declared.filling.Filler.TheVariants.{Number}
 use Rattle.svg_text.specs.declared.grid.Grid.{Grid}
@@ -27,12 +28,8 @@ abbrev pub blocked_of : Ending → Graph → List Blocked
 blocked_of (Halted Stuck) graph = graph.blocked
 blocked_of ending graph = []
 
--- a run of 64 ranks has no more cycles
-abbrev pub most_cycles : ℕ
-most_cycles = 64
-
 abbrev pub cycles_of : Ending → Graph → List (List ℕ)
-cycles_of (Halted Stuck) graph = take most_cycles graph.cycles
+cycles_of (Halted Stuck) graph = take MOST_CYCLES graph.cycles
 cycles_of ending graph = []
 
 -- a rank is among those that are stuck

@@ -1,10 +1,11 @@
 //! Beside the lanes: who waits for whom, and how each rank ended.
 ghost use Rattle.std.specs.Prelude.{◌≡◌, ◌+◌, ◌*◌, ◌≤◌, ◌<◌, ◌^◌, ◌++◌, ◌∷◌, [], ℕ, List, IfOk, OnOk, Option, Some, codes, flat_map, length, option_map, slice_index_or, take};
+ghost use Rattle.svg_text.specs.declared.endings.TheConstants.{MOST_CYCLES};
 ghost use Rattle.std.specs.List.{list_any};
 ghost use Rattle.run_model.specs.declared.ending.Ending.{Ending as EndingSpec};
 ghost use Rattle.run_text.specs.CallTexts.{joined, numbers_text};
 ghost use Rattle.wiz_base.specs.Decimals.{decimal_text};
-ghost use Rattle.svg_text.specs.Endings.{arc_out, arc_text, arc_to, arcs_of, arcs_of_rank, arcs_of_wait, arrives_at, beside, beside_by, beside_text, beside_texts, blocked_rank, blocked_of, byte_text, drawn_cycle_text, cycles_of, cycles_text, dots_text, has_ended_text, drawn_ending_text, entering_text, endings_text, farthest, is_blocked, leaves_at, longest, awaited_message_text, most_cycles, drawn_output_text, plain_text, receiver_text, round_text, awaited_source_text, style_text, awaited_tag_text, drawn_wait_text, drawn_waiting_text};
+ghost use Rattle.svg_text.specs.Endings.{arc_out, arc_text, arc_to, arcs_of, arcs_of_rank, arcs_of_wait, arrives_at, beside, beside_by, beside_text, beside_texts, blocked_rank, blocked_of, byte_text, drawn_cycle_text, cycles_of, cycles_text, dots_text, has_ended_text, drawn_ending_text, entering_text, endings_text, farthest, is_blocked, leaves_at, longest, awaited_message_text, drawn_output_text, plain_text, receiver_text, round_text, awaited_source_text, style_text, awaited_tag_text, drawn_wait_text, drawn_waiting_text};
 ghost use Rattle.svg_text.specs.Grids.{distance, y_of};
 
 use crate::filling::{Filler, push_filled};
@@ -23,8 +24,8 @@ use wiz_base::{Bytes, push_decimal, push_text};
 const SHOWN: usize = 30;
 /// The most characters of a text beside a lane that count for the width.
 const MOST_CHARACTERS: usize = 1000;
-/// The most cycles that are shown.
-const MOST_CYCLES: usize = 64;
+/// The most cycles that are shown; a run of the most ranks has no more.
+pub const MOST_CYCLES: usize = 64;
 
 /// A rank that waits for another one that is stuck too.
 #[derive(Clone, Copy)]
@@ -46,7 +47,7 @@ pub fn blocked_of<'a>(ending: &Ending, graph: &'a Graph) -> &'a [Blocked]
 /// The cycles, where a run is halted as stuck.
 pub fn cycles_of<'a>(ending: &Ending, graph: &'a Graph) -> &'a [Ranks]
     ensures cycles { result.now ≡ cycles_of ending.now graph.entry.now }
-    ensures few { length result.now ≤ 64 }
+    ensures few { length result.now ≤ MOST_CYCLES }
 {
     match ending {
         Ending::Halted(Halt::Stuck) => cycles_in(graph, MOST_CYCLES),
@@ -315,7 +316,7 @@ fn push_cycle(out: &mut Bytes, y: u64, ranks: &Ranks) -> Result<(), AllocError>
 
 /// The cycles, one below the other.
 pub fn push_cycles(out: &mut Bytes, y: u64, cycles: &[Ranks]) -> Result<(), AllocError>
-    requires few { length cycles.now ≤ 64 }
+    requires few { length cycles.now ≤ MOST_CYCLES }
     requires low { y < 2 ^ 41 }
     ensures { OnOk result (out.new ≡ out.old ++ cycles_text y cycles.now) }
 {

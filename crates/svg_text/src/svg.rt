@@ -1,5 +1,6 @@
 //! The picture of a run as SVG.
 ghost use Rattle.std.specs.Prelude.{◌≡◌, ◌+◌, ◌-◌, ◌≤◌, ◌<◌, ◌^◌, ◌++◌, IfOk, OnOk, codes, flat_map, if◌then◌else◌, length};
+ghost use Rattle.svg_text.specs.declared.endings.TheConstants.{MOST_CYCLES};
 ghost use Rattle.run_model.specs.Views.{view_of};
 ghost use Rattle.svg_text.specs.Endings.{arc_text, arcs_of, beside, beside_texts, blocked_of, cycles_of, cycles_text, endings_text, farthest, longest};
 ghost use Rattle.svg_text.specs.Grids.{bottom_of, grid_by, right_of};
@@ -83,7 +84,7 @@ fn push_picture(
     requires small { right < 2 ^ 40 }
     requires high { 64 ≤ high }
     requires low { high < 2 ^ 42 }
-    requires few { length cycles.now ≤ 64 }
+    requires few { length cycles.now ≤ MOST_CYCLES }
     ensures { OnOk result (out.new ≡ out.old ++ picture_text (sheet_of grid.now right high) history.now.events drawing.now ending.now (remarks_of all.now cycles.now texts.now)) }
 {
     let arcs = arcs_of(alloc, all)?;
@@ -107,7 +108,7 @@ fn push_beside(
     texts: &[Bytes],
     ranks: u8,
 ) -> Result<(), AllocError>
-    requires { length cycles.now ≤ 64 }
+    requires { length cycles.now ≤ MOST_CYCLES }
     ensures { OnOk result (out.new ≡ out.old ++ (cycles_text (bottom_of grid.now ranks + 16) cycles.now ++ endings_text grid.now all.now x texts.now ranks)) }
 {
     push_cycles(out, grid.bottom(ranks as usize) + 16, cycles)?;

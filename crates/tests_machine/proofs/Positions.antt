@@ -1,6 +1,6 @@
 -- What holds of the starts at a position holds at the next one.
 use Rattle.std.proofs.Common.{◌≡◌, ◌+◌, ℕ, Bool, List, [], ◌∷◌, ◌++◌, true, false, length, refl, ap, sym, ◌∙◌, subst, arith}
-use Rattle.std.specs.List.{range_with_len}
+use Rattle.run_model.specs.Lists.{world}
 use Rattle.mpi_call.specs.declared.call.Call.{Call}
 use Rattle.mpi_call.specs.declared.call.Call.TheVariants.{Send, Post}
 use Rattle.mpi_call.specs.Calls.{comm_of, is_enter, is_starting}
@@ -63,7 +63,7 @@ next_entered ranks at rank call old new (Made number mate) may is =
         unpaired = subst F (sym is.1.unpaired) (below_more at old.unpaired may.above.unpaired);
       };
       many = ap (λ (r : Rows). length r) is.1.rows ∙ (length-row rank (row_of old.table.rows rank ++ new_start call instance ∷ []) old.table.rows ∙ may.many);
-      world = made_stays old.table.comms new.table.comms (comm_of call) instance 0 (range_with_len 0 ranks) g may.world;
+      world = made_stays old.table.comms new.table.comms (comm_of call) instance 0 (world ranks 0) g may.world;
     }
 
 next_as : (b : Bool) (ranks at rank : ℕ) (call : Call) (old new : MatchingState) (started : Started) → MayStart ranks at old

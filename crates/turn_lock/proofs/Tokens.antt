@@ -4,6 +4,7 @@ use mathlib.Core.Option.{some, some-ne-none, some-injective}
 use lib.ListN.{get_elem?}
 use Rattle.atomic_table.specs.Table.{Splits, Joins, opening, Seen, Final}
 use Rattle.atomic_table.proofs.Lists.{set_else, at_longer}
+use Rattle.turn_lock.specs.declared.lock.TheConstants.{MOST_SEATS}
 use Rattle.turn_lock.specs.Rule.{account, fresh_accounts, first_view, seen_in, total, tickets_at, tickets, accounts_of, Queue, StageFits, AccountsFit, ViewFits, SlotTable, TurnRule}
 use Rattle.turn_lock.specs.Steps.{first_only, but_first, without_first, first_alone, both_views, spent_view}
 use Rattle.turn_lock.specs.inside.Ends.{HasAccount, AllStand, EndsWith}
@@ -157,7 +158,7 @@ module _ {T E F : Type 0} (entries : T → List (ℕ × E)) (frame_of : T → F)
             (slot_stays entries frame_of seats told s r id v both s.words at (idle_not_turn entries frame_of seats told v idle));
       }
 
-  pub opens : (x : T) → seats ≤ 64 → entries x ≡ [] → frame_of x ≡ told → KeptBy (opening (0 ∷ 0 ∷ []) (Some x ∷ []) (first_view seats told))
+  pub opens : (x : T) → seats ≤ MOST_SEATS → entries x ≡ [] → frame_of x ≡ told → KeptBy (opening (0 ∷ 0 ∷ []) (Some x ∷ []) (first_view seats told))
   opens x few none_yet is_told = record {
     history = [];
     queue = empty;

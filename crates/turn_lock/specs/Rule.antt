@@ -3,6 +3,7 @@ use Rattle.std.specs.Prelude.{◌≡◌, ℕ, zero, suc, ◌+◌, ◌%◌, ◌^�
 use mathlib.Core.Option.{some}
 use lib.ListN.{get_elem?}
 use Rattle.atomic_table.specs.Table.{State}
+use Rattle.turn_lock.specs.declared.lock.TheConstants.{MOST_SEATS}
 use Rattle.turn_lock.specs.Entries.{entries_of, StartsWith}
 use Rattle.turn_lock.specs.declared.view.Account.{Account}
 use Rattle.turn_lock.specs.declared.view.TokenView.{TokenView}
@@ -96,13 +97,13 @@ SlotFits {T} {E} {F} entries frame_of told history s =
     ⊎ ((j : ℕ) × (v : TokenView E F) × (t : ℕ) × (get_elem? s.views j ≡ some v) × (v.stage ≡ Turn t))
 
 -- the rule: each entry of the history is a seat's; the words are the next ticket and the one that is served; as many
--- tickets are drawn and not passed as there are views with one; there are as many accounts as seats, so at most 64 wait
+-- tickets are drawn and not passed as there are views with one; there are as many accounts as seats, so at most `MOST_SEATS` wait
 pub record TurnRule {T E F : Type 0} (entries : T → List (ℕ × E)) (frame_of : T → F) (seats : ℕ) (told : F)
     (s : SlotTable T E F) : Type 0 where
   pub history : List (ℕ × E)
   pub queue : Queue
   pub owner : ℕ → ℕ
-  pub few : seats ≤ 64
+  pub few : seats ≤ MOST_SEATS
   pub numbers : All (λ e. e.0 < seats) history
   pub words : s.words ≡ queue.next % 2 ^ 64 ∷ queue.serving % 2 ^ 64 ∷ []
   pub waiting : queue.next ≡ queue.serving + total tickets s.views

@@ -1,5 +1,6 @@
 //! How a lock begins, with one token that is split into seats, and how it ends, with the seats joined again.
 ghost use Rattle.std.specs.Prelude.{◌≡◌, ℕ, ◌<◌, ◌≤◌, [], ◌∷◌, All, IfOk, Some, vec_len};
+ghost use Rattle.turn_lock.specs.declared.lock.TheConstants.{MOST_SEATS};
 ghost use Rattle.turn_lock.specs.inside.Ends.{accounts_at, IsIdleAt, HasAccount, EndsWith};
 ghost use Rattle.turn_lock.specs.Rule.{first_view};
 ghost use Rattle.turn_lock.specs.Seat.{AreFresh, lock_on};
@@ -27,7 +28,7 @@ pub fn laid<T: Ledger>(
     value: T,
     terms: &Terms<T>,
 ) -> Result<(SeatTable<T>, SeatToken<T>), AllocError>
-    requires seats { (0 < terms.now.seats) × (terms.now.seats ≤ 64) }
+    requires seats { (0 < terms.now.seats) × (terms.now.seats ≤ MOST_SEATS) }
     requires value { (T.entries value ≡ []) × (terms.now.first.value ≡ value) }
     ensures table { IfOk result (λ r. IsLockTable r.0.shared.table_id × (r.0.shared.key ≡ terms.now)) }
     ensures token { IfOk result (λ r. r.1.table_id ≡ r.0.shared.table_id) }

@@ -11,5 +11,5 @@ mod steps;
 mod view;
 
 pub use ledger::Ledger;
-pub use lock::TurnLock;
+pub use lock::{MOST_SEATS, TurnLock};
 pub use seat::{Held, Seat};

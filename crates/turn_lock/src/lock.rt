@@ -2,6 +2,7 @@
 ghost use Rattle.std.specs.Prelude.{◌≡◌, ℕ, ◌<◌, ◌≤◌, ◌++◌, [], true, false, All, Any, IfOk};
 ghost use Rattle.turn_lock.specs.Entries.{entries_of, StartsWith, Grows, appended};
 ghost use Rattle.turn_lock.specs.Seat.{HasFrame, AreFresh};
+ghost use Rattle.turn_lock.specs.declared.lock.TheConstants.{MOST_SEATS};
 
 use crate::ends::{SeatTable, emptied, joined, laid, seated};
 use crate::ledger::Ledger;
@@ -13,6 +14,9 @@ use std::alloc::{AllocError, Global};
 use std::marker::Model;
 use std::snapshot::Snapshot;
 use std::sync::Wait;
+
+/// The most seats of a lock.
+pub const MOST_SEATS: u32 = 64;
 
 /// A ticket lock: a word for the next ticket, a word for the ticket that is served, and a slot for the value.
 /// Contracts see which lock it is, its number of seats and the frame of the value that it was made of.
@@ -26,13 +30,14 @@ impl<T: Ledger> Model for TurnLock<T> {
     ghost use Rattle.std.specs.Prelude.{◌<◌, ◌≤◌};
     ghost use Rattle.turn_lock.specs.Seat.{LockView, lock_on};
     ghost use Rattle.turn_lock.specs.Steps.{IsLockTable};
+    ghost use Rattle.turn_lock.specs.declared.lock.TheConstants.{MOST_SEATS};
 
     ghost Value = { LockView T.Frame };
 
     ghost view = { λ l. lock_on l.table.shared.table_id l.table.shared.key.seats (T.frame l.table.shared.key.first.value) };
 
     ghost invariant = { λ l. IsLockTable l.table.shared.table_id
-        × (0 < l.table.shared.key.seats) × (l.table.shared.key.seats ≤ 64) };
+        × (0 < l.table.shared.key.seats) × (l.table.shared.key.seats ≤ MOST_SEATS) };
 }
 
 impl<T: Ledger> TurnLock<T> {
@@ -44,7 +49,7 @@ impl<T: Ledger> TurnLock<T> {
     ) -> Result<(TurnLock<T>, Vec<Seat<T>>), AllocError>
     where
         T: Send,
-        requires seats { (0 < seats) × (seats ≤ 64) }
+        requires seats { (0 < seats) × (seats ≤ MOST_SEATS) }
         requires entries { T.entries value ≡ [] }
         ensures lock { IfOk result (λ r. (r.0.seats ≡ seats) × HasFrame r.0 (T.frame value)) }
         ensures seats { IfOk result (λ r. AreFresh r.0 r.1.items) }

@@ -1,6 +1,6 @@
 -- The limits of the tool, each written out: what a document says of a limit is said of this number.
 use Rattle.std.specs.Prelude.{◌≡◌}
-use Rattle.c_check_expr.specs.declared.constant.TheConstants.{MOST_ELEMENTS}
+use Rattle.c_scope.specs.declared.constant.TheConstants.{MOST_ELEMENTS}
 use Rattle.c_grammar.specs.declared.limits.TheConstants.{MOST_DEPTHS}
 use Rattle.c_lex.specs.declared.limits.TheConstants.{GREATEST_LITERAL, MOST_BYTES}
 use Rattle.c_program.specs.declared.constants.TheConstants.{MOST_CALLS, MOST_CELLS, MOST_PRINTED, MOST_STEPS}
@@ -8,7 +8,7 @@ use Rattle.mpi_call.specs.declared.limits.TheConstants.{GREATEST_TAG, MOST_EVENT
 use Rattle.msg_races.specs.Names.{most_racing}
 use Rattle.other_picks.specs.declared.other.TheConstants.{MOST_OTHER_PICKS}
 use Rattle.srr_log.specs.declared.limits.TheConstants.{GREATEST_NUMBER, MOST_ENTRIES, MOST_LOG_BYTES, MOST_PROGRAM_BYTES}
-use Rattle.wiz_words.specs.Limits.{fewest_polls, fewest_ranks, fewest_rounds, fewest_states, greatest_call, greatest_rank, greatest_seed, greatest_start, most_polls, most_ranks, most_rounds, most_states, usual_polls, usual_states}
+use Rattle.wiz_words.specs.declared.limits.TheConstants.{FEWEST_POLLS, FEWEST_RANKS, FEWEST_ROUNDS, FEWEST_STATES, GREATEST_CALL, GREATEST_RANK, GREATEST_SEED, GREATEST_START, MOST_POLLS, MOST_ROUNDS, MOST_STATES, USUAL_POLLS, USUAL_STATES}
 use Rattle.wiz_tool.specs.Inputs.{order_limit, text_limit}
 use Rattle.wiz_runs.specs.declared.commands.picture.TheConstants.{MOST_DRAWN}
 
@@ -43,7 +43,7 @@ pub record AreTheLimits : Type 0 where
   pub result_ints : MOST_RESULT_INTS ≡ 262144
   -- the most starts that a completion lists
   pub starts : MOST_STARTS ≡ 1000000
-  -- a run: the most ranks
+  -- a run: the most ranks, which is also the most of a block of an advice
   pub ranks : MOST_RANKS ≡ 64
   -- so many events stop it
   pub events : MOST_EVENTS ≡ 999000
@@ -62,30 +62,28 @@ pub record AreTheLimits : Type 0 where
   -- the most bytes of its program's text
   pub program : MOST_PROGRAM_BYTES ≡ 65536
   -- arguments: the greatest rank of a breakpoint
-  pub break_rank : greatest_rank ≡ 63
+  pub break_rank : GREATEST_RANK ≡ 63
   -- the greatest call of a breakpoint
-  pub break_call : greatest_call ≡ 999999
+  pub break_call : GREATEST_CALL ≡ 999999
   -- the greatest number of a message's start
-  pub start : greatest_start ≡ 999999
+  pub start : GREATEST_START ≡ 999999
   -- the fewest ranks of the blocks of an advice
-  pub block_from : fewest_ranks ≡ 1
-  -- the most
-  pub block : most_ranks ≡ 64
+  pub block_from : FEWEST_RANKS ≡ 1
   -- the greatest seed of a demo
-  pub seed : greatest_seed ≡ 2147483647
+  pub seed : GREATEST_SEED ≡ 2147483647
   -- the fewest rounds of a demo
-  pub rounds_from : fewest_rounds ≡ 1
+  pub rounds_from : FEWEST_ROUNDS ≡ 1
   -- the most
-  pub rounds : most_rounds ≡ 1000
+  pub rounds : MOST_ROUNDS ≡ 1000
   -- a search: the fewest states that it looks at
-  pub states_from : fewest_states ≡ 1
+  pub states_from : FEWEST_STATES ≡ 1
   -- the most
-  pub states : most_states ≡ 1000000
+  pub states : MOST_STATES ≡ 1000000
   -- how many where nothing is said
-  pub usual : usual_states ≡ 10000
+  pub usual : USUAL_STATES ≡ 10000
   -- the fewest times in a row that a rank looks in vain
-  pub polls_from : fewest_polls ≡ 1
+  pub polls_from : FEWEST_POLLS ≡ 1
   -- the most
-  pub polls : most_polls ≡ 1000
+  pub polls : MOST_POLLS ≡ 1000
   -- how many where nothing is said
-  pub patience : usual_polls ≡ 3
+  pub patience : USUAL_POLLS ≡ 3

@@ -45,12 +45,11 @@ order_of_run next n recording law picked =
 pub in_turns : (next : Next) (output : Output) (n : ℕ) (text : List ℕ) (groups : List (List ℕ)) (turns : List Turn) (recording : Recording) → EveryRunIsRecorded next n
     → TurnsFixRun next n → IsRecording next output n (recording_with text groups turns) recording → IsInTurns next n turns recording.history.events
 in_turns next output n text groups turns recording every fix is = record {
-  taken = is.made;
-  only = λ others taken. fix turns others recording.history.events taken is.made;
-  picked = is.begins;
+  run = is.in_turns;
+  only = λ others taken. fix turns others recording.history.events taken is.in_turns.taken;
   allowed = λ run is_run numbered free same.
       let F : List Turn → Type 0 = λ order. IsRunByTurns next n order recording.history.events in
-      every run recording.history.events is_run numbered free (subst F (sym same) is.made);
+      every run recording.history.events is_run numbered free (subst F (sym same) is.in_turns.taken);
 }
 
 pub made_by : (ready : Ready) (recording : Recording) → CanRun ready

@@ -12,7 +12,6 @@ use Rattle.group_plan.specs.PlanText.{IsPlanText}
 use Rattle.srr_log.specs.declared.limits.TheConstants.{MOST_LOG_BYTES}
 use Rattle.replay_model.specs.Laws.{IsRunWith}
 use Rattle.run_model.specs.declared.event.Event.{Event}
-use Rattle.picked_runs.specs.declared.turn.Pick.{Pick}
 use Rattle.picked_runs.specs.declared.turn.Turn.{Turn}
 use Rattle.picked_runs.specs.Made.{picks_of}
 use Rattle.picked_runs.specs.Numbering.{AreNumberedInOrder}
@@ -26,7 +25,7 @@ use Rattle.run_model.specs.Views.{Next}
 use Rattle.srr_entry.specs.declared.log.Log.{Log}
 use Rattle.srr_log2.specs.LogBytes.{AreLogBytes, log_bytes}
 use Rattle.srr_record.specs.declared.recording.Recording.{Recording}
-use Rattle.srr_record.specs.Recordings.{IsRecorded}
+use Rattle.srr_record.specs.Recordings.{IsRecorded, IsRunInTurns}
 use Rattle.wiz_task.specs.Names.{Plan}
 use Rattle.wiz_tool.specs.Outcomes.{TaskOutcome}
 
@@ -51,9 +50,8 @@ pub record ArePrepared (texts : RunTexts) (program : Program) (groups : Plan) (t
 -- with each run that the matching rules allow, where they are its order and what it picked; the run has no Stuck reply, and its new
 -- communicators are numbered as a recording numbers them
 pub record IsInTurns (next : Next) (n : ℕ) (turns : List Turn) (events : List Event) : Type 0 where
-  pub taken : IsRunByTurns next n turns events
+  pub run : IsRunInTurns next n turns events
   pub only : (others : List Event) → IsRunByTurns next n turns others → others ≡ events
-  pub picked : (picks : List Pick) (run : List Event) → IsPicked next n picks run → has_stuck run ≡ false → turns_of (order_of run) picks ≡ turns → IsPrefixOf run events
   pub allowed : (run : List Event) → IsRun next n run → AreNumberedInOrder n run → has_stuck run ≡ false → turns_of (order_of run) (picks_of n run) ≡ turns → IsPrefixOf run events
 
 -- the run is the only one with its order in which the same was picked

@@ -1,4 +1,3 @@
-pub mod Limits
 pub mod Forms
 pub mod Values
 pub mod Words

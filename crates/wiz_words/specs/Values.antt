@@ -5,7 +5,7 @@ use Rattle.std.specs.Str.{bytes_eq}
 use Rattle.clap.specs.Words.{App, Row, Text, fault_of, first_of, found_of, matches_of, rows_of}
 use Rattle.clap.specs.declared.parser.matches.ArgMatches.{ArgMatches}
 use Rattle.wiz_base.specs.Decimals.{decimal_text}
-use Rattle.wiz_words.specs.Limits.{greatest_call, greatest_rank, greatest_start}
+use Rattle.wiz_words.specs.declared.limits.TheConstants.{GREATEST_CALL, GREATEST_RANK, GREATEST_START}
 
 -- what was found, a row an argument
 abbrev pub rows_found : ArgMatches → List Row
@@ -38,8 +38,8 @@ IsNumberOr given name least most usual number =
 -- R:C, a rank and the number of a call, each a number as above
 pub record IsBreakpointText (text : Text) (stop : ℕ × ℕ) : Type 0 where
   pub spelled : text ≡ decimal_text stop.0 ++ 58 ∷ decimal_text stop.1
-  pub rank : stop.0 ≤ greatest_rank
-  pub call : stop.1 ≤ greatest_call
+  pub rank : stop.0 ≤ GREATEST_RANK
+  pub call : stop.1 ≤ GREATEST_CALL
 
 -- a breakpoint where `--break` has a value, and then the one that it spells
 abbrev pub IsBreakpoint : Option Text → Option (ℕ × ℕ) → Type 0
@@ -50,8 +50,8 @@ IsBreakpoint (Some text) (Some stop) = IsBreakpointText text stop
 -- S.K, the name of a message: its sender and its number among the sender's starts, each a number as above
 pub record IsNameText (text : Text) (name : ℕ × ℕ) : Type 0 where
   pub spelled : text ≡ decimal_text name.0 ++ 46 ∷ decimal_text name.1
-  pub rank : name.0 ≤ greatest_rank
-  pub start : name.1 ≤ greatest_start
+  pub rank : name.0 ≤ GREATEST_RANK
+  pub start : name.1 ≤ GREATEST_START
 
 -- the value of an argument is the name of a message
 pub record IsNameIn (given : List Row) (argument : Text) (name : ℕ × ℕ) : Type 0 where

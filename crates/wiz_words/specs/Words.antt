@@ -9,7 +9,8 @@ use Rattle.wiz_words.specs.declared.command.RunWords.{RunWords}
 use Rattle.wiz_words.specs.declared.command.Verb.{Verb}
 use Rattle.wiz_words.specs.declared.command.Verb.TheVariants as verb
 use Rattle.wiz_words.specs.Forms.{form_of, verb_name}
-use Rattle.wiz_words.specs.Limits.{fewest_polls, fewest_ranks, fewest_rounds, fewest_states, greatest_rank, greatest_seed, most_polls, most_ranks, most_rounds, most_states, usual_polls, usual_states}
+use Rattle.wiz_words.specs.declared.limits.TheConstants.{FEWEST_POLLS, FEWEST_RANKS, FEWEST_ROUNDS, FEWEST_STATES, GREATEST_RANK, GREATEST_SEED, MOST_POLLS, MOST_ROUNDS, MOST_STATES, USUAL_POLLS, USUAL_STATES}
+use Rattle.mpi_call.specs.declared.limits.TheConstants.{MOST_RANKS}
 use Rattle.wiz_words.specs.Texts.{with_texts}
 use Rattle.wiz_words.specs.Values.{IsBreakpoint, IsNameIn, IsNumberIn, IsNumberOr, flag_in, value_in}
 
@@ -63,9 +64,9 @@ AreWordsOf given (Check run) = AreRunWords given None run
 AreWordsOf given (Races run orders) =
     AreRunWords given (value_in given (codes "order")) run × (orders ≡ value_in given (codes "orders"))
 AreWordsOf given (Advise run most) =
-    AreRunWords given (value_in given (codes "order")) run × IsNumberIn given (codes "K") fewest_ranks most_ranks most
+    AreRunWords given (value_in given (codes "order")) run × IsNumberIn given (codes "K") FEWEST_RANKS MOST_RANKS most
 AreWordsOf given (Demo seed rounds) =
-    IsNumberIn given (codes "SEED") 0 greatest_seed seed × IsNumberIn given (codes "ROUNDS") fewest_rounds most_rounds rounds
+    IsNumberIn given (codes "SEED") 0 GREATEST_SEED seed × IsNumberIn given (codes "ROUNDS") FEWEST_ROUNDS MOST_ROUNDS rounds
 AreWordsOf given (Replay replay) = AreReplayWords given replay
 AreWordsOf given (Show log) = value_in given (codes "LOG") ≡ Some log
 AreWordsOf given (Stats log) = value_in given (codes "LOG") ≡ Some log
@@ -80,13 +81,13 @@ AreWordsOf given (Waits run) = AreRunWords given (value_in given (codes "order")
 AreWordsOf given (Picture run file is_trace) =
     AreRunWords given (value_in given (codes "order")) run × (value_in given (codes "FILE") ≡ Some file) × (is_trace ≡ flag_in given (codes "trace"))
 AreWordsOf given (Watch replay rank name) =
-    AreReplayWords given replay × IsNumberIn given (codes "RANK") 0 greatest_rank rank × (value_in given (codes "NAME") ≡ Some name)
+    AreReplayWords given replay × IsNumberIn given (codes "RANK") 0 GREATEST_RANK rank × (value_in given (codes "NAME") ≡ Some name)
 AreWordsOf given (At replay) = AreReplayWords given replay
 AreWordsOf given (Where replay source start) = AreReplayWords given replay × IsNameIn given (codes "MESSAGE") (source, start)
 AreWordsOf given (Explore run prefix most polls) =
     AreSearchWords given run × (value_in given (codes "PREFIX") ≡ Some prefix)
-    × IsNumberOr given (codes "most") fewest_states most_states usual_states most
-    × IsNumberOr given (codes "polls") fewest_polls most_polls usual_polls polls
+    × IsNumberOr given (codes "most") FEWEST_STATES MOST_STATES USUAL_STATES most
+    × IsNumberOr given (codes "polls") FEWEST_POLLS MOST_POLLS USUAL_POLLS polls
 
 -- what was found is the command of this name with the arguments that are given; nothing, where they are out of form
 abbrev pub IsCommandIn : List Row → Verb → Option (Command (Bor Text)) → Type 0

@@ -3,5 +3,6 @@
 
 pub mod command;
 mod forms;
+pub mod limits;
 pub mod read;
 mod values;

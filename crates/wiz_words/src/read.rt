@@ -11,45 +11,14 @@ ghost use Rattle.wiz_words.specs.Words.{AreReplayWords, AreRunWords, AreSearchWo
 
 use crate::command::{Command, ReplayWords, RunWords, Verb};
 use crate::forms::{clap_form, form_named};
+use crate::limits::{
+    FEWEST_POLLS, FEWEST_RANKS, FEWEST_ROUNDS, FEWEST_STATES, GREATEST_RANK, GREATEST_SEED,
+    MOST_POLLS, MOST_ROUNDS, MOST_STATES, USUAL_POLLS, USUAL_STATES,
+};
 use crate::values::{breakpoint, flag_in, matches_of, name_in, number_in, number_or, value_in};
 use clap::ArgMatches;
+use mpi_call::limits::MOST_RANKS;
 use std::alloc::{AllocError, Global};
-
-/// The fewest ranks that a block of an advice may be limited to.
-const FEWEST_RANKS: u32 = 1;
-
-/// The most ranks that a block of an advice may be limited to.
-const MOST_RANKS: u32 = 64;
-
-/// The greatest rank that is watched.
-const GREATEST_RANK: u32 = 63;
-
-/// The greatest seed of a demo.
-const GREATEST_SEED: u32 = 2_147_483_647;
-
-/// The fewest rounds of a demo.
-const FEWEST_ROUNDS: u32 = 1;
-
-/// The most rounds of a demo.
-const MOST_ROUNDS: u32 = 1000;
-
-/// The fewest states that a search looks at.
-const FEWEST_STATES: u32 = 1;
-
-/// The most states that a search looks at.
-const MOST_STATES: u32 = 1_000_000;
-
-/// How many states a search looks at where nothing is said.
-const USUAL_STATES: u32 = 10_000;
-
-/// The fewest times in a row that a rank may look in vain.
-const FEWEST_POLLS: u32 = 1;
-
-/// The most times in a row that a rank may look in vain.
-const MOST_POLLS: u32 = 1000;
-
-/// How many times in a row a rank may look in vain where nothing is said.
-const USUAL_POLLS: u32 = 3;
 
 /// The command that the arguments ask for, or nothing where they are in no command's form. The program's own name is not among
 /// the arguments.
@@ -123,7 +92,7 @@ fn advise_from<'a>(matches: &ArgMatches<'a>) -> Option<Command<&'a str>>
     ensures { IsCommandIn (rows_found matches.now) verb.Advise result }
 {
     let run = ordered_run(matches)?;
-    let most = number_in(matches, "K", FEWEST_RANKS, MOST_RANKS)?;
+    let most = number_in(matches, "K", FEWEST_RANKS, MOST_RANKS as u32)?;
     Some(Command::Advise {
         run,
         most: most as u8,

@@ -5,19 +5,11 @@ ghost use Rattle.clap.specs.Words.{app_of, is_simple_and_free};
 ghost use Rattle.wiz_words.specs.Texts.{texts};
 ghost use Rattle.wiz_words.specs.Values.{AreMatchesOf, IsBreakpointText, IsNameIn, IsNameText, IsNumberIn, IsNumberOr, flag_in, rows_found, value_in};
 
+use crate::limits::{GREATEST_CALL, GREATEST_RANK, GREATEST_START};
 use clap::error::ErrorKind;
 use clap::{ArgMatches, Command};
 use std::alloc::AllocError;
 use wiz_base::number::decimal;
-
-/// The greatest rank of a breakpoint.
-const GREATEST_RANK: u64 = 63;
-
-/// The greatest number of a message's start.
-const GREATEST_START: u64 = 999_999;
-
-/// The greatest number of a call of a breakpoint.
-const GREATEST_CALL: u64 = 999_999;
 
 /// What clap finds in the arguments; nothing where the form refuses them.
 pub fn matches_of<'a>(
@@ -89,8 +81,8 @@ pub fn breakpoint(text: &str) -> Option<(u8, u32)>
         (λ stop. IsBreakpointText text.now stop) }
 {
     let (rank, call) = text.split_once(':')?;
-    let rank = decimal(rank.as_bytes(), GREATEST_RANK)?;
-    let call = decimal(call.as_bytes(), GREATEST_CALL)?;
+    let rank = decimal(rank.as_bytes(), GREATEST_RANK as u64)?;
+    let call = decimal(call.as_bytes(), GREATEST_CALL as u64)?;
     Some((rank as u8, call as u32))
 }
 
@@ -109,7 +101,7 @@ fn message_name(text: &str) -> Option<(u8, u32)>
         (λ name. IsNameText text.now name) }
 {
     let (rank, start) = text.split_once('.')?;
-    let rank = decimal(rank.as_bytes(), GREATEST_RANK)?;
-    let start = decimal(start.as_bytes(), GREATEST_START)?;
+    let rank = decimal(rank.as_bytes(), GREATEST_RANK as u64)?;
+    let start = decimal(start.as_bytes(), GREATEST_START as u64)?;
     Some((rank as u8, start as u32))
 }

@@ -1,11 +1,6 @@
 -- Joins of clocks.
-use Rattle.std.specs.Prelude.{◌≡◌, ◌<◌, ◌≤◌, ◌⊎◌, ℕ, List, Some, length, max, slice_get, slice_index}
+use Rattle.std.specs.Prelude.{◌≡◌, ◌<◌, ◌≤◌, ◌⊎◌, ℕ, List, Some, length, slice_get, slice_index}
 use Rattle.mpi_call.specs.Lists.{IsIn}
-
--- place by place the greater of the two numbers
-pub record AreGreater (old other new : List ℕ) : Type 0 where
-  pub as_many : length new ≡ length old
-  pub each : (rank : ℕ) → slice_index new rank ≡ max (slice_index old rank) (slice_index other rank)
 
 -- each of these clocks has as many numbers as this one
 abbrev pub AreAsWide : List (List ℕ) → List ℕ → Type 0

@@ -1,5 +1,6 @@
 //! The text of what is asked of a replay.
 ghost use Rattle.std.specs.Prelude.{◌≡◌, ◌≤◌, ◌++◌, [], IfOk, OnOk, map, true};
+ghost use Rattle.mpi_call.specs.declared.limits.TheConstants.{MOST_RANKS};
 ghost use Rattle.c_program.specs.View.{pure_program};
 ghost use Rattle.c_program.specs.Program.{next_of, variables_of};
 ghost use Rattle.replay_views.specs.Snapshots.{snapshots_of};
@@ -115,7 +116,7 @@ fn add_snapshots(
     ends: &[Stand],
     snapshots: &mut Snapshots,
 ) -> Result<(), AllocError>
-    requires few { n ≤ 64 }
+    requires few { n ≤ MOST_RANKS }
     requires below { are_below n group.now ≡ true }
     requires came { HaveCome (next_of (pure_program program.now)) n by_rank.now }
     ensures { OnOk result (snapshots.new ≡ snapshots.old ++ snapshots_of (next_of (pure_program program.now)) (variables_of (pure_program program.now)) n by_rank.now group.now ends.now) }

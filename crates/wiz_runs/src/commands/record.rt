@@ -1,5 +1,6 @@
 //! `record PROGRAM PLAN PREFIX [--order FILE] [--serial]`: a run is recorded, and the log of each group and the order are written.
 ghost use Rattle.std.specs.Prelude.{◌≡◌, ◌≤◌, length};
+ghost use Rattle.mpi_call.specs.declared.limits.TheConstants.{MOST_RANKS};
 ghost use Rattle.wiz_runs.specs.Runs.{record_outcome};
 ghost use Rattle.wiz_task.specs.inside.Ends.{EndsTask};
 ghost use Rattle.wiz_task.specs.inside.Recording.{AreInBounds};
@@ -50,7 +51,7 @@ fn write<S: Store, K: Sink>(
     out: &mut K,
 ) -> Result<Report, AllocError>
     requires in_bounds { AreInBounds recording.logs }
-    requires few { length recording.logs ≤ 64 }
+    requires few { length recording.logs ≤ MOST_RANKS }
     ensures told { IsReportedBy (record_outcome prefix.now recording) (around S.observed K.observed store out) result }
     ensures reads { (S.observed store.new).reads ≡ (S.observed store.old).reads }
 {

@@ -1,5 +1,5 @@
 use Rattle.c_program.specs.View.{pure_program}
-use Rattle.c_types.proofs.OneTyping.{program_one}
+use Rattle.c_types.proofs.Laws.{program_one}
 use Rattle.c_types.proofs.meaning.text_fixes_meaning.Goals as goal
 
 pub returns : goal.returns

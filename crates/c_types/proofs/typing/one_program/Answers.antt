@@ -1,6 +1,4 @@
-use Rattle.c_types.proofs.Always.{program_or_fault}
-use Rattle.c_types.proofs.CheckRules.{fault_one, never_both}
-use Rattle.c_types.proofs.OneTyping.{program_one}
+use Rattle.c_types.proofs.Laws.{fault_one, never_both, program_one, program_or_fault}
 use Rattle.c_types.proofs.typing.one_program.Goals as goal
 
 pub returns-clause-one_fault : goal.returns-clause-one_fault

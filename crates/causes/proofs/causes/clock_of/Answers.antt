@@ -22,11 +22,11 @@ returns c =
     let last = ap (λ (l : List ℕ). slice_get l (length l - 1)) own in
     let places : c.as_slice.result.now ≡ option_to_list c.copied.result ++ rests =
     c.as_slice.ensures ∙ c.in_ok-push_rests.ensures ∙ ap (λ (l : List ℕ). l ++ rests) (c.in_ok-push_some.ensures ∙ ap (λ (l : List ℕ). l ++ option_to_list c.copied.result) c.new-places.ensures) in
-    let J : List ℕ → Type 0 = λ l. IsJoinOfAll (replicate n 0) c.args.clocks.now l c.join_all.new.self in
-    let K : List ℕ → Type 0 = λ l. IsJoinOfAll l c.args.clocks.now c.as_slice.result.now c.join_all.new.self in
+    let J : List ℕ → Type 0 = λ l. IsJoinOfAll (replicate n 0) c.args.clocks.now l c.join_all.new.clock in
+    let K : List ℕ → Type 0 = λ l. IsJoinOfAll l c.args.clocks.now c.as_slice.result.now c.join_all.new.clock in
     let join : J (option_to_list c.copied.result ++ rests) = subst J places (subst K c.in_ok-clock.ensures c.join_all.ensures) in
-    let made : IsMade n c.args.before.now c.args.event.now c.args.clocks.now c.copied.result c.join_all.new.self =
+    let made : IsMade n c.args.before.now c.args.event.now c.args.clocks.now c.copied.result c.join_all.new.clock =
     record { clocks_are = c.requires.clocks; below = c.requires.rank; last_is = (let value = c.last.ensures.value in cc); join = join } in
     let P : List ℕ → Type 0 = λ l. IsClock n (c.args.before.now ++ c.args.event.now ∷ []) (length c.args.before.now) l in
-    subst P (sym (c.set.ensures ∙ ap (λ k. set c.join_all.new.self c.args.event.now.rank (k + 1)) c.number_of.ensures))
-    (new_clock n c.args.before.now c.args.event.now c.args.clocks.now c.copied.result c.join_all.new.self made)
+    subst P (sym (c.set.ensures ∙ ap (λ k. set c.join_all.new.clock c.args.event.now.rank (k + 1)) c.number_of.ensures))
+    (new_clock n c.args.before.now c.args.event.now c.args.clocks.now c.copied.result c.join_all.new.clock made)

@@ -31,7 +31,6 @@ returns c = record {
   break_call = refl;
   start = refl;
   block_from = refl;
-  block = refl;
   seed = refl;
   rounds_from = refl;
   rounds = refl;

@@ -6,7 +6,7 @@ pub returns-then-comm-eq0 : goal.returns-then-comm-eq0
 returns-then-comm-eq0 c = record {
   members =
       rw c.if-comm-eq0.true
-      (ap (λ (xs : List ℕ). Some (take c.args.rank.ranks xs)) (c.deref.ensures.value ∙ c.self.invariant.0)
+      (ap (λ (xs : List ℕ). Some (take c.args.rank.ranks xs)) (c.as_slice.ensures ∙ c.self.invariant.0)
       ∙ ap (λ (xs : List ℕ). Some xs) (take_world c.args.rank.ranks 64 0 c.requires));
   bound = search rules;
 }

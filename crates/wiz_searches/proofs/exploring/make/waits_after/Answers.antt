@@ -21,7 +21,7 @@ returns c =
     if_ok c.waiting_text.result _ _
     (λ text is. (
       c.in_ok-recording.recording.history.events,
-      c.in_ok-recording.ensures.made,
+      c.in_ok-recording.ensures.in_turns.taken,
       waits_told (number_of_ranks c.args.ready.now.plan) c.n-ranks.result c.in_ok-recording.recording.history.events c.in_ok-graph.graph text c.n-ranks.ensures.ranks c.in_ok-graph.ensures is,
     ))
     c.waiting_text.ensures

@@ -1,6 +1,0 @@
-use Rattle.std.proofs.Common.{◌∙◌}
-use Rattle.c_check.proofs.Names.{any_bytes}
-use Rattle.c_check.proofs.seen.SeenNames.has.Goals as goal
-
-pub returns : goal.returns
-returns c = rw (← c.self.view_is) (c.contains.ensures ∙ any_bytes c.args.name.now c.self.inside.names.keys)

@@ -1,9 +1,0 @@
-pub mod Least
-pub mod Typings
-pub mod Wanted
-pub mod LiteralLaws
-pub mod Rows
-pub mod Entries
-pub mod Lists
-pub mod Links
-pub mod Hiding

@@ -1,6 +1,0 @@
-use Rattle.std.proofs.Common.{◌≡◌}
-use Rattle.run_model.specs.Lists.{world}
-use Rattle.c_run_cells.proofs.state.all_ranks.Given as goal
-
-abbrev pub invariant-loop-rank : goal.invariant-loop-rank
-invariant-loop-rank l = l.all.items ≡ world l.rank 0

@@ -1,0 +1,14 @@
+pub mod Least
+pub mod Typings
+pub mod Gives
+pub mod Walked
+pub mod Joined
+pub mod JoinRules
+pub mod OwnFaults
+pub mod HadMemory
+pub mod LiteralLaws
+pub mod Entries
+pub mod Lists
+pub mod Rows
+pub mod Links
+pub mod Hiding

@@ -1,0 +1,11 @@
+pub mod Least
+pub mod Typing
+pub mod Walks
+pub mod Scopes
+pub mod Signatures
+pub mod Rows
+pub mod Variables
+pub mod Kinds
+pub mod Literals
+pub mod Constants
+pub mod inside

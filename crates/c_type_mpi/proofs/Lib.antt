@@ -1,3 +1,0 @@
-pub mod MpiRules
-pub mod MpiTypings
-pub mod Total

@@ -1,6 +1,0 @@
-use Rattle.c_type_mpi.specs.MpiCalls as y
-use Rattle.c_type_mpi.proofs.MpiRules.{by_places, of_ok}
-use Rattle.c_type_mpi.proofs.arguments.Arguments.recv.Goals as goal
-
-pub returns : goal.returns
-returns c = by_places _ _ _ _ c.requires (y.recv (of_ok _ c.in_ok-message.ensures.first c.incoming.ensures) (of_ok _ c.in_ok-message.ensures.second c.value.ensures) (of_ok _ c.in_ok-message.ensures.third c.status.ensures))

@@ -1,6 +1,0 @@
-use Rattle.c_type_mpi.specs.MpiCalls as y
-use Rattle.c_type_mpi.proofs.MpiRules.{by_places, of_ok}
-use Rattle.c_type_mpi.proofs.arguments.Arguments.wait.Goals as goal
-
-pub returns : goal.returns
-returns c = by_places _ _ _ _ c.requires (y.wait (of_ok _ c.in_ok-request.ensures.first c.reference.ensures) (of_ok _ c.in_ok-request.ensures.second c.status.ensures))

@@ -1,3 +1,0 @@
-pub mod MpiCalls
-pub mod MpiTyping
-pub mod CallTyping

@@ -1,0 +1,3 @@
+-- What only the crate's own functions cite.
+pub mod Seen
+pub mod Settled

@@ -1,9 +1,0 @@
-use Rattle.std.proofs.lemmas.Result.{on_ok_weaker}
-use Rattle.msg_races.proofs.Tables.{sends_more}
-use Rattle.msg_races.proofs.sends.Sends.note.Goals as goal
-
-pub returns : goal.returns
-returns c =
-    on_ok_weaker c.push_send.result
-    (λ adds. sends_more c.args.before.now c.args.event.now c.args.self.now c.push_send.new.self c.requires.sends adds)
-    c.push_send.ensures
