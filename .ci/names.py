@@ -1,13 +1,15 @@
 #!/usr/bin/env python3
-"""One name for one thing: the names that stand in two crates or more, and the definitions that take seven arguments or more.
+"""One name for one thing: the names that stand in two crates or more, the definitions that take seven arguments or more, and the
+limits that stand as bare numbers where their constants should.
 
     .ci/names.py             prints them
     .ci/names.py --check     compares them with the list .ci/names.txt; status 1 where one is new, or one that is listed is gone
     .ci/names.py --write     writes the list; it is to grow shorter
 
 A definition is one of `specs/`, whether private or not; a type is a struct, enum, trait or alias of `src/`, or a type that a trait asks
-for (what an implementation gives for it is no name of its own). Crates of tests and benchmarks do not count: nobody reads them to
-learn a word.
+for (what an implementation gives for it is no name of its own). A limit is a `pub const` of `src/` of at least 1,000, and it stands
+bare in `specs/` where its number does; the page that tells a reader the numbers of all limits is the place for them. Crates of tests
+and benchmarks do not count: nobody reads them to learn a word.
 """
 import importlib.util
 import re
@@ -18,8 +20,13 @@ from pathlib import Path
 TOP = Path(__file__).resolve().parent.parent
 LIST = TOP / ".ci" / "names.txt"
 MOST_ARGUMENTS = 6
+LEAST_LIMIT = 1000
+LIMITS_TOLD = "crates/wiz_cli/specs/Limits.antt"
 
 TYPE = re.compile(r"^\s*(?:pub(?:\([a-z]+\))? )?(?:struct|enum|trait) (\w+)|^(?:pub(?:\([a-z]+\))? )?type (\w+)|^\s+type (\w+)[;:]", re.M)
+LIMIT = re.compile(r"^\s*pub const (\w+): [ui]\w+ = ([\d_]+);", re.M)
+NUMBER = re.compile(r"(?<![\w.'])\d+(?![\w'])")
+TEXT = re.compile(r'"[^"\n]*"|--.*')
 PARAMETERS = re.compile(r"\(([^():]+):")
 BRACKETS = re.compile(r"[({\[][^(){}\[\]]*[)}\]]")
 
@@ -52,6 +59,28 @@ def types():
             yield found[found.lastindex], crate
 
 
+def limits():
+    """The names of each limit's number."""
+    names = defaultdict(set)
+    for path in (TOP / "crates").glob("*/src/**/*.rt"):
+        for name, digits in LIMIT.findall(path.read_text()):
+            if int(digits) >= LEAST_LIMIT:
+                names[int(digits)].add(name)
+    return names
+
+
+def bare_limits():
+    """The limits that stand as numbers in definitions."""
+    names = limits()
+    for path in sorted((TOP / "crates").glob("*/specs/**/*.antt")):
+        place = str(path.relative_to(TOP))
+        if place == LIMITS_TOLD or not is_read(path.relative_to(TOP / "crates").parts[0]):
+            continue
+        for number in NUMBER.findall(TEXT.sub("", path.read_text())):
+            if int(number) in names:
+                yield f"{place}: {number}, which is {' or '.join(sorted(names[int(number)]))}"
+
+
 def arguments_of(head):
     """How many arguments a definition takes, by its first line: the names in its brackets, or the arrows of its type outside them."""
     named = sum(len(names.split()) for names in PARAMETERS.findall(head))
@@ -73,6 +102,7 @@ def sections():
         "definitions that stand in two crates or more": twins,
         "types that stand in two crates or more": in_two_crates(types()),
         f"definitions of more than {MOST_ARGUMENTS} arguments": long,
+        "limits that stand as bare numbers": sorted(set(bare_limits())),
     }
 
 

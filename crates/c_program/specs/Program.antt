@@ -1,5 +1,5 @@
 -- A C program as a program: what its ranks do, have printed and hold, after the replies that they got.
-use Rattle.std.specs.Prelude.{◌≡◌, ℕ, List, [], Option}
+use Rattle.std.specs.Prelude.{ℕ, List, [], Option}
 use Rattle.mpi_call.specs.declared.call.Call.{Call}
 use Rattle.mpi_call.specs.declared.reply.Reply.{Reply}
 use Rattle.run_model.specs.declared.lists.Variable.{Variable}
@@ -27,9 +27,3 @@ output_of program n me replies = (state_in (course_after program n me replies)).
 -- the listed variables of a rank
 abbrev pub variables_of : Program → ℕ → ℕ → List Reply → List Variable
 variables_of program n me replies = variables_in (course_after program n me replies)
-
--- no rank can tell which of the two it runs
-pub record SameMeaning (program other : Program) : Type 0 where
-  pub next : (n me : ℕ) (replies : List Reply) → next_of program n me replies ≡ next_of other n me replies
-  pub output : (n me : ℕ) (replies : List Reply) → output_of program n me replies ≡ output_of other n me replies
-  pub variables : (n me : ℕ) (replies : List Reply) → variables_of program n me replies ≡ variables_of other n me replies

@@ -2,35 +2,19 @@
 use Rattle.std.proofs.Common.{◌≡◌, Bool, false, List, [], ◌∷◌, Option, Some, None, refl, ◌∙◌}
 use Rattle.c_grammar.specs.declared.terminal.Span.{Span}
 use Rattle.c_grammar.specs.Tree as t
-use Rattle.c_names.specs.declared.kind.VariableKind.{VariableKind}
 use Rattle.c_program.specs.Tree as p
 use Rattle.c_program.specs.declared.program.TypedParameter.{TypedParameter}
-use Rattle.c_scope.specs.Kinds.{kind_of_symbol}
-use Rattle.c_scope.specs.Scopes.{Env, closed, opened}
-use Rattle.c_scope.specs.Signatures.{is_int_keyword, listed, parameters_listed}
+use Rattle.c_scope.specs.Scopes.{Env, opened}
+use Rattle.c_scope.specs.Signatures.{is_int_keyword, parameters_listed}
 use Rattle.c_scope.specs.Walks.{Gives, if_both}
 use Rattle.c_scope.specs.declared.fault.TypingFault.{TypingFault}
 use Rattle.c_scope.specs.declared.meaning.Entity.{Entity}
 use Rattle.c_scope.proofs.Gives.{gives_both, gives_form}
-use Rattle.c_type_stmt.specs.Declarations.{after_declarators, after_item, after_part, after_parts}
+use Rattle.c_type_stmt.specs.Declarations.{after_parts}
 use Rattle.c_type_stmt.specs.StmtTyping.{parts_typing}
+use Rattle.c_type_stmt.proofs.Closed.{closed_more, closing}
 use Rattle.c_types.specs.ProgramTyping.{definition_typing, parameters_typing}
 use Rattle.c_types.specs.Programs.{after_parameter, after_parameters, declare_optional, is_main, parameter_entity, parameter_name}
-
-abbrev pub closing : Env → Env
-closing env = record env { entries = closed env.entries }
-
-closed_items : (env : Env) (kind : VariableKind) (items : List t.InitDeclarator) → closing (after_declarators env kind items) ≡ closing env
-closed_items env kind [] = refl
-closed_items env kind (item ∷ items) = closed_items (after_item env kind item) kind items
-
-closed_part : (env : Env) (one : t.Part) → closing (after_part env one) ≡ closing env
-closed_part env (t.declare declaration end) = closed_items env (kind_of_symbol declaration.kind) (listed declaration.items)
-closed_part env (t.stmt inner) = refl
-
-closed_parts : (env : Env) (parts : t.Parts) → closing (after_parts env parts) ≡ closing env
-closed_parts env t.no_part = refl
-closed_parts env (t.part one others) = closed_parts (after_part env one) others ∙ closed_part env one
 
 closed_optional : (env : Env) (name : Option Span) (entity : Entity) → closing (declare_optional env name entity) ≡ closing env
 closed_optional env None entity = refl
@@ -43,7 +27,7 @@ closed_parameters env main (one ∷ others) =
 
 pub closed_function : (env : Env) (main : Bool) (parameters : List t.Parameter) (parts : t.Parts)
     → closing (after_parts (after_parameters (opened env) main parameters) parts) ≡ env
-closed_function env main parameters parts = closed_parts (after_parameters (opened env) main parameters) parts ∙ closed_parameters (opened env) main parameters
+closed_function env main parameters parts = closed_more (after_parameters (opened env) main parameters) parts ∙ closed_parameters (opened env) main parameters
 
 pub definition_gives : {old mid new : Option TypingFault} {found : Option p.Function} (env outer inner : Env) (main gives : Bool) (head : t.Head) (parts : t.Parts)
     (parameters : Option (List TypedParameter)) (body : Option p.TypedParts) → main ≡ is_main env.text head → gives ≡ is_int_keyword head.result → outer ≡ opened env

@@ -22,9 +22,10 @@ use Rattle.c_scope.proofs.Joined.{gives_own}
 use Rattle.c_scope.proofs.Least.{least_from_append}
 use Rattle.c_scope.proofs.Lists.{drop_at, drop_past}
 use Rattle.c_scope.proofs.Walked.{both as both_faults}
+use Rattle.c_scope.proofs.OwnFaults.{gives_told}
 use Rattle.c_types.specs.ProgramTyping.{named_typing, parameter_typing, parameters_typing}
 use Rattle.c_types.specs.Programs.{after_parameter, after_parameters, parameter_faults, prototype_faults}
-use Rattle.c_types.proofs.Walks.{SoFar, so_far_first, so_far_last, so_far_next, told}
+use Rattle.c_types.proofs.Walks.{SoFar, so_far_first, so_far_last, so_far_next}
 
 -- parameters behind a first one
 abbrev pub behind_first : List (AfterComma Parameter) → List t.Parameter
@@ -100,4 +101,4 @@ pub named_told : {old new own : Option TypingFault} {found : Option TypedParamet
     → found ≡ unless_fault own (Some form) → Gives old new found (named_typing env at kind name)
 named_told {old} {new} {own} {found} env at kind name span form s f o n e =
     subst (λ one. Gives old new found (named_typing env at kind one)) s
-    (told (twice_faults env span) (typed (record { name = token_bytes env.text span; kind = kind })) (record { best = refl; form = ap (λ one. Some one) f }) o n e)
+    (gives_told (twice_faults env span) (typed (record { name = token_bytes env.text span; kind = kind })) (record { best = refl; form = ap (λ one. Some one) f }) o n e)

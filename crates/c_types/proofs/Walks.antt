@@ -1,27 +1,9 @@
--- What a walk gives beside faults of its own, and what a loop over a list has given so far.
-use Rattle.std.proofs.Common.{◌≡◌, List, Option, Some, None, option_map, refl, sym, ap, subst, ◌∙◌}
-use Rattle.c_scope.specs.Least.{least_fault_from}
-use Rattle.c_scope.specs.Typing.{Typing, typed, also, both, onto}
-use Rattle.c_scope.specs.Walks.{Gives, if_both, merged, unless_fault}
+-- What a walk gives of something that may be left out, and what a loop over a list has given so far.
+use Rattle.std.proofs.Common.{◌≡◌, Option, Some, None, option_map, refl, ap, ◌∙◌}
+use Rattle.c_scope.specs.Typing.{Typing, typed, both, onto}
+use Rattle.c_scope.specs.Walks.{Gives, if_both}
 use Rattle.c_scope.specs.declared.fault.TypingFault.{TypingFault}
 use Rattle.c_scope.proofs.Gives.{gives_both, gives_form, gives_onto}
-use Rattle.c_scope.proofs.Joined.{gives_own}
-
--- ---- faults of its own
-
--- a form, unless there are faults of its own, which are told
-pub told : {A : Type 0} {old mid new own : Option TypingFault} {found left : Option A} (fs : List TypingFault) (t : Typing A) → Gives old mid found t
-    → own ≡ least_fault_from None fs → new ≡ merged mid own → left ≡ unless_fault own found → Gives old new left (also fs t)
-told {old} {left} fs t g o n e = subst (λ best. Gives old best left (also fs t)) (sym n) (gives_form (gives_own fs g o) e)
-
-map_unless : {A B : Type 0} (f : A → B) (own : Option TypingFault) (found : Option A) → option_map f (unless_fault own found) ≡ unless_fault own (option_map f found)
-map_unless f None found = refl
-map_unless f (Some one) found = refl
-
--- the same of a pure form
-pub told_as : {A B : Type 0} {old mid new own : Option TypingFault} {left : Option A} (f : A → B) (found : Option A) (fs : List TypingFault) (t : Typing B) → Gives old mid (option_map f found) t
-    → own ≡ least_fault_from None fs → new ≡ merged mid own → left ≡ unless_fault own found → Gives old new (option_map f left) (also fs t)
-told_as {own} f found fs t g o n e = told fs t g o n (ap (option_map f) e ∙ map_unless f own found)
 
 map_some : {A B : Type 0} (f : A → B) (found : Option A) → option_map (option_map f) (option_map Some found) ≡ option_map Some (option_map f found)
 map_some f None = refl

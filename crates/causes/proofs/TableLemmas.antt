@@ -9,7 +9,7 @@ use Rattle.mpi_call.specs.declared.reply.Item.{Item}
 use Rattle.mpi_call.specs.declared.reply.Reply.{Reply}
 use Rattle.mpi_call.specs.declared.reply.Reply.TheVariants.{Done, Took, NotYet, Peeked, Stopped}
 use Rattle.run_model.specs.declared.event.Event.{Event}
-use Rattle.run_model.specs.Communicators.{is_on, known_after, learned, made_in_got, made_in_items, members_for_rank, or_members, or_none as or_no_members}
+use Rattle.run_model.specs.Communicators.{is_enter_of, is_on, known_after, learned, made_in_got, made_in_items, members_for_rank, or_members, or_none as or_no_members}
 use Rattle.run_model.specs.Lists.{world}
 use Rattle.run_model.specs.Views.{View, is_start, view_of}
 use Rattle.run_model.proofs.Enters.{known_after-append}
@@ -17,7 +17,7 @@ use Rattle.run_model.proofs.Views.{test_cases, view_of-other, view_of-own}
 use Rattle.causes.specs.declared.key.Key.{Key}
 use Rattle.causes.specs.declared.key.TheConstants.{MATES}
 use Rattle.causes.specs.Keys.{enters_key, events_key, mates_key, same_key, starts_key}
-use Rattle.causes.specs.Positions.{is_enter_of, is_mate_of, is_event_of, is_start_of, is_at_position, positions}
+use Rattle.causes.specs.Positions.{is_mate_of, is_event_of, is_start_of, is_at_position, positions}
 use Rattle.causes.specs.Tables.{AddsPosition, IsKnownTable, IsPlaceTable, Learns, adds_enter, adds_enter_by, adds_mate, adds_mate_by, adds_start, positions_of_key}
 use Rattle.causes.proofs.JoinLemmas.{tail_is}
 use Rattle.causes.proofs.PositionLemmas.{positions-push}

@@ -2,7 +2,7 @@
 use Rattle.std.specs.Prelude.{ℕ, List, [], ◌∷◌, ◌++◌, ◌+◌, Option, Some, None, Bool, false, ◌&&◌, ◌==◌, if◌then◌else◌, length, slice_get, take}
 use Rattle.std.specs.Option.{option_to_list}
 use Rattle.run_model.specs.declared.event.Event.{Event}
-use Rattle.run_model.specs.Communicators.{is_on}
+use Rattle.run_model.specs.Communicators.{is_enter_of}
 use Rattle.run_model.specs.Views.{is_start}
 
 -- the positions of the events that pass a test, rising; the first event has position `at`
@@ -17,10 +17,6 @@ is_event_of rank event = event.rank == rank
 -- a start of the rank
 abbrev pub is_start_of : ℕ → Event → Bool
 is_start_of rank event = is_start (event.call, event.reply) && (event.rank == rank)
-
--- an Enter of the rank on the communicator
-abbrev pub is_enter_of : ℕ → ℕ → Event → Bool
-is_enter_of rank comm event = is_start (event.call, event.reply) && (is_on comm event.call && (event.rank == rank))
 
 -- the position is this one
 abbrev pub is_at_position : Option ℕ → ℕ → Bool

@@ -4,12 +4,12 @@ use Rattle.std.specs.Map.{lookup}
 use Rattle.mpi_call.specs.declared.call.Call.{Call}
 use Rattle.mpi_call.specs.declared.call.Call.TheVariants.{Enter}
 use Rattle.run_model.specs.declared.event.Event.{Event}
-use Rattle.run_model.specs.Communicators.{known_after, or_members}
+use Rattle.run_model.specs.Communicators.{is_enter_of, known_after, or_members}
 use Rattle.run_model.specs.Views.{is_start, view_of}
 use Rattle.causes.specs.declared.key.Key.{Key}
 use Rattle.causes.specs.Keys.{enters_key, events_key, mates_key, same_key, starts_key}
 use Rattle.causes.specs.PositionTables.{AddsPositionBy, positions_by}
-use Rattle.causes.specs.Positions.{is_enter_of, is_mate_of, is_event_of, is_start_of, positions}
+use Rattle.causes.specs.Positions.{is_mate_of, is_event_of, is_start_of, positions}
 
 -- the positions that a table has for a key
 abbrev pub positions_of_key : List (Key × List ℕ) → Key → List ℕ

@@ -25,3 +25,8 @@ all_texts f out whole (x ∷ rest) none so_far = absurd (omega (arith, none))
 -- the messages that were taken, and then those that are open
 pub both_told : (old middle new taken whole opens : List ℕ) → middle ≡ old ++ taken → taken ≡ whole → new ≡ middle ++ opens → new ≡ old ++ (whole ++ opens)
 both_told old middle new taken whole opens first same last = rw (last, first, same, append_assoc) refl
+
+-- words, a name, a word, a tag, a word and more words, one after the other
+pub seven_told : (old o1 o2 o3 o4 o5 o6 new a b c d e f g : List ℕ) → o1 ≡ old ++ a → o2 ≡ o1 ++ b → o3 ≡ o2 ++ c → o4 ≡ o3 ++ d → o5 ≡ o4 ++ e → o6 ≡ o5 ++ f → new ≡ o6 ++ g
+    → new ≡ old ++ (a ++ b ++ c ++ d ++ e ++ f ++ g)
+seven_told old o1 o2 o3 o4 o5 o6 new a b c d e f g s1 s2 s3 s4 s5 s6 s7 = rw (s7, s6, s5, s4, s3, s2, s1) (simp append_assoc refl)

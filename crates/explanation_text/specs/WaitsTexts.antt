@@ -12,7 +12,8 @@ use Rattle.run_model.specs.declared.event.Event.{Event}
 use Rattle.run_model.specs.Allowed.{Probe, probe_of}
 use Rattle.run_model.specs.Lists.{world}
 use Rattle.run_model.specs.Views.{View, view_of}
-use Rattle.run_text.specs.CallTexts.{call_text, name_text}
+use Rattle.run_text.specs.CallTexts.{call_text}
+use Rattle.srr_log.specs.EntryText.{name_text}
 use Rattle.run_text.specs.GroupTexts.{spaced_ranks_text}
 use Rattle.run_text.specs.RecordTexts.{ending_text}
 use Rattle.wait_graph.specs.declared.difference.Difference.{Difference}

@@ -5,8 +5,8 @@ ghost use Rattle.explanation_text.specs.RacesTexts.{names_text, others_text, rac
 use msg_races::names::Name;
 use msg_races::receives::{Receives, WildcardReceive};
 use run_model::ending::Ending;
-use run_text::call_text::push_name;
 use run_text::recording::push_ending;
+use srr_log::entry_text::push_name;
 use std::alloc::{AllocError, Global};
 use wiz_base::{Bytes, push_decimal, push_text};
 

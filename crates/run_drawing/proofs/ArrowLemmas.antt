@@ -16,14 +16,14 @@ use Rattle.mpi_call.specs.Calls.{is_starting, listed_by}
 use Rattle.mpi_call.specs.Lists.{IsIn}
 use Rattle.mpi_call.specs.Needs.{needs}
 use Rattle.run_model.specs.declared.event.Event.{Event}
-use Rattle.run_model.specs.Communicators.{is_on, members_for_rank}
+use Rattle.run_model.specs.Communicators.{is_enter_of, is_on, members_for_rank}
 use Rattle.run_model.specs.Due.{stops}
 use Rattle.run_model.specs.Views.{is_done, is_start, view_of}
 use Rattle.run_model.proofs.StartLemmas.{slice_get-below}
 use Rattle.run_model.proofs.Views.{test_cases}
 use Rattle.causes.specs.Before.{PrecedesDirectly}
 use Rattle.causes.specs.Before.IsBefore.{step}
-use Rattle.causes.specs.Positions.{enter_position, enter_instance_at, is_enter_of, is_event_of, is_start_of, positions, start_position}
+use Rattle.causes.specs.Positions.{enter_position, enter_instance_at, is_event_of, is_start_of, positions, start_position}
 use Rattle.causes.specs.Steps.{collected_from, completed_from, needed_enters, entered_one, given_at, given_by, given_from, received_at, rests_on, given_by_items}
 use Rattle.causes.proofs.PositionLemmas.{placed-in}
 use Rattle.msg_races.specs.Listing.{lists_below}

@@ -13,9 +13,9 @@ use Rattle.run_drawing.specs.declared.drawing.Unreceived.{Unreceived}
 use Rattle.run_drawing.specs.declared.scene.Scene.{Scene}
 use Rattle.run_drawing.specs.declared.tracing.Tracing.{Tracing}
 use Rattle.run_drawing.specs.Basis.{Basis}
-use Rattle.run_drawing.specs.Columns.{behind_all, columns_of}
+use Rattle.run_drawing.specs.Columns.{behind_all}
 use Rattle.run_drawing.specs.Depths.{AreDepths}
-use Rattle.run_drawing.specs.Drawings.{IsDrawing, collective_at, rank_groups, drawn_marks, of_events, of_starts, probe_at, receive_at, unreceived_at}
+use Rattle.run_drawing.specs.Drawings.{IsDrawing, drawn}
 use Rattle.run_drawing.specs.Drawn.{Drawn}
 use Rattle.run_drawing.specs.inside.Scenes.{IsScene, IsTraced, basis_of}
 use Rattle.run_drawing.proofs.TracedLemmas.{depths_of, late_of, links_of}
@@ -51,17 +51,7 @@ one_each f (suc n) =
     let long = length-append (lists_below (λ rank. f rank ∷ []) n) (f n ∷ []) in
     omega (arith, rest, long)
 
--- what a drawing is made of
-pub record IsDrawnOf (plan : List (List ℕ)) (n : ℕ) (scene : Scene) (drawing : Drawn) : Type 0 where
-  pub groups : drawing.groups ≡ rank_groups plan
-  pub columns : drawing.columns ≡ columns_of scene.causes.events scene.depths.items
-  pub marks : drawing.marks ≡ lists_below (drawn_marks (basis_of scene)) n
-  pub receives : drawing.receives ≡ lists_below (of_starts (receive_at (basis_of scene)) scene.causes.events) n
-  pub collectives : drawing.collectives ≡ lists_below (of_starts (collective_at (basis_of scene)) scene.causes.events) n
-  pub probes : drawing.probes ≡ lists_below (of_events (probe_at (basis_of scene)) scene.causes.events) n
-  pub unreceived : drawing.unreceived ≡ lists_below (of_starts (unreceived_at (basis_of scene)) scene.causes.events) n
-
-same_drawn : (one other : Drawn) → one.groups ≡ other.groups → one.columns ≡ other.columns → one.marks ≡ other.marks → one.receives ≡ other.receives
+pub same_drawn : (one other : Drawn) → one.groups ≡ other.groups → one.columns ≡ other.columns → one.marks ≡ other.marks → one.receives ≡ other.receives
     → one.collectives ≡ other.collectives → one.probes ≡ other.probes → one.unreceived ≡ other.unreceived → one ≡ other
 same_drawn one other g k m r c p u =
     let M : List ℕ → ℕ → List DrawnMark → List DrawnReceive → List DrawnCollective → List Arrow → List Unreceived → Drawn =
@@ -82,34 +72,18 @@ same_drawn one other g k m r c p u =
     ∙ ap (λ (x : List Arrow). M other.groups other.columns other.marks other.receives other.collectives x one.unreceived) p
     ∙ ap (λ (x : List Unreceived). M other.groups other.columns other.marks other.receives other.collectives other.probes x) u
 
-pub drawing_is : (plan : List (List ℕ)) (events : List Event) (n : ℕ) (scene : Scene) (drawing : Drawn) → IsScene scene → scene.causes.ranks ≡ n → n ≡ number_of_ranks plan → scene.causes.events ≡ events
-    → TellsBefore (comes_before scene.causes) scene.causes.ranks scene.causes.events → IsDrawnOf plan n scene drawing → IsDrawing plan events drawing
-drawing_is plan events n scene drawing is ranks all events_are tells of =
+pub drawing_is : (plan : List (List ℕ)) (events : List Event) (scene : Scene) (drawing : Drawn) → IsScene scene → scene.causes.ranks ≡ number_of_ranks plan → scene.causes.events ≡ events
+    → TellsBefore (comes_before scene.causes) scene.causes.ranks scene.causes.events → drawing ≡ drawn plan (basis_of scene) → IsDrawing plan events drawing
+drawing_is plan events scene drawing is ranks events_are tells of =
     let m : ℕ = number_of_ranks plan in
-    let count : scene.causes.ranks ≡ m = ranks ∙ all in
     let B : ℕ → List Event → Basis = λ k l. record { ranks = k; events = l; depths = scene.depths.items; before = comes_before scene.causes } in
-    let base : basis_of scene ≡ B m events = ap (λ (k : ℕ). B k scene.causes.events) count ∙ ap (λ (l : List Event). B m l) events_are in
+    let base : basis_of scene ≡ B m events = ap (λ (k : ℕ). B k scene.causes.events) ranks ∙ ap (λ (l : List Event). B m l) events_are in
     let D : ℕ → List Event → Type 0 = λ k l. AreDepths k l scene.depths.items in
     let T : ℕ → List Event → Type 0 = λ k l. TellsBefore (comes_before scene.causes) k l in
     record {
       depths = scene.depths.items;
       before = comes_before scene.causes;
-      are_depths = subst (λ (l : List Event). D m l) events_are (subst (λ (k : ℕ). D k scene.causes.events) count is.depths);
-      tells = subst (λ (l : List Event). T m l) events_are (subst (λ (k : ℕ). T k scene.causes.events) count tells);
-      is = same_drawn drawing (record {
-        groups = rank_groups plan;
-        columns = columns_of events scene.depths.items;
-        marks = lists_below (drawn_marks (B m events)) m;
-        receives = lists_below (of_starts (receive_at (B m events)) events) m;
-        collectives = lists_below (of_starts (collective_at (B m events)) events) m;
-        probes = lists_below (of_events (probe_at (B m events)) events) m;
-        unreceived = lists_below (of_starts (unreceived_at (B m events)) events) m;
-      })
-          of.groups
-          (of.columns ∙ ap (λ (l : List Event). columns_of l scene.depths.items) events_are)
-          (of.marks ∙ ap (λ (b : Basis). lists_below (drawn_marks b) n) base ∙ ap (lists_below (drawn_marks (B m events))) all)
-          (of.receives ∙ ap (λ (b : Basis). lists_below (of_starts (receive_at b) b.events) n) base ∙ ap (lists_below (of_starts (receive_at (B m events)) events)) all)
-          (of.collectives ∙ ap (λ (b : Basis). lists_below (of_starts (collective_at b) b.events) n) base ∙ ap (lists_below (of_starts (collective_at (B m events)) events)) all)
-          (of.probes ∙ ap (λ (b : Basis). lists_below (of_events (probe_at b) b.events) n) base ∙ ap (lists_below (of_events (probe_at (B m events)) events)) all)
-          (of.unreceived ∙ ap (λ (b : Basis). lists_below (of_starts (unreceived_at b) b.events) n) base ∙ ap (lists_below (of_starts (unreceived_at (B m events)) events)) all);
+      are_depths = subst (λ (l : List Event). D m l) events_are (subst (λ (k : ℕ). D k scene.causes.events) ranks is.depths);
+      tells = subst (λ (l : List Event). T m l) events_are (subst (λ (k : ℕ). T k scene.causes.events) ranks tells);
+      is = of ∙ ap (drawn plan) base;
     }

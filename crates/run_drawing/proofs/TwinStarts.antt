@@ -3,12 +3,12 @@ use Rattle.std.proofs.Common.{◌≡◌, ◌+◌, ◌==◌, ◌&&◌, ◌++◌, 
 use Rattle.mpi_call.specs.declared.call.Call.{Call}
 use Rattle.mpi_call.specs.declared.reply.Reply.{Reply}
 use Rattle.run_model.specs.declared.event.Event.{Event}
-use Rattle.run_model.specs.Communicators.{count_on, is_on}
+use Rattle.run_model.specs.Communicators.{count_on, is_enter_of, is_on}
 use Rattle.run_model.specs.Pairs.{Name, name_at}
 use Rattle.run_model.specs.Views.{View, is_start, start_at, starts_of, view_of}
 use Rattle.run_model.proofs.StartLemmas.{slice_get-below}
 use Rattle.run_model.proofs.Views.{test_cases}
-use Rattle.causes.specs.Positions.{is_enter_of, is_event_of, is_start_of, positions, start_position}
+use Rattle.causes.specs.Positions.{is_event_of, is_start_of, positions, start_position}
 use Rattle.causes.proofs.Deciding.{below_some}
 use Rattle.causes.proofs.PositionLemmas.{in-placed}
 use Rattle.msg_races.proofs.StartNames.{AreNumbered, start_of_name, starts_numbered}

@@ -9,13 +9,13 @@ use Rattle.mpi_call.specs.declared.reply.Got.TheVariants.{Joined, Made, Message 
 use Rattle.mpi_call.specs.Lists.{IsIn}
 use Rattle.mpi_call.specs.Needs.{needs}
 use Rattle.run_model.specs.declared.event.Event.{Event}
-use Rattle.run_model.specs.Communicators.{Entered, count_on, enter_at, instance_of, known_first, members_for_rank}
+use Rattle.run_model.specs.Communicators.{Entered, count_on, enter_at, instance_of, is_enter_of, known_first, members_for_rank}
 use Rattle.run_model.specs.Pairs.{Name, pairs_of, partner_of}
 use Rattle.run_model.specs.Views.{View, is_start, start_at, starts_of, view_of}
 use Rattle.run_model.proofs.Enters.{entered_from-count}
 use Rattle.run_model.proofs.StartLemmas.{slice_get-below, starts_of-append}
 use Rattle.run_model.proofs.Views.{test_cases, view_of-append}
-use Rattle.causes.specs.Positions.{enter_position, enter_instance_at, is_enter_of, is_start_of, mates_of, positions, start_position}
+use Rattle.causes.specs.Positions.{enter_position, enter_instance_at, is_start_of, mates_of, positions, start_position}
 use Rattle.causes.specs.Steps.{collected_from, needed_enters, given_from, received_at}
 use Rattle.causes.proofs.Deciding.{below_some}
 use Rattle.causes.proofs.PositionLemmas.{count_below-positions}

@@ -10,13 +10,13 @@ use Rattle.mpi_call.specs.Calls.{listed_by}
 use Rattle.mpi_call.specs.Lists.{IsIn}
 use Rattle.mpi_call.specs.Needs.{needs}
 use Rattle.run_model.specs.declared.event.Event.{Event}
-use Rattle.run_model.specs.Communicators.{is_on, members_for_rank}
+use Rattle.run_model.specs.Communicators.{is_enter_of, is_on, members_for_rank}
 use Rattle.run_model.specs.Pairs.{Name, name_at, named, pairs_of, partner_of, post_accepts}
 use Rattle.run_model.specs.Run.{IsRun}
 use Rattle.run_model.specs.Views.{Next, is_start, start_at, view_of}
 use Rattle.run_model.proofs.Taken.{event_there}
 use Rattle.run_model.proofs.Views.{test_cases}
-use Rattle.causes.specs.Positions.{enter_position, enter_instance_at, is_enter_of, is_start_of, is_at_position, mates_of, positions, start_position}
+use Rattle.causes.specs.Positions.{enter_position, enter_instance_at, is_start_of, is_at_position, mates_of, positions, start_position}
 use Rattle.causes.specs.Steps.{collected_from, completed_from, needed_enters, entered_one, given_at, given_by, given_from, received_at}
 use Rattle.causes.proofs.PositionLemmas.{placed-in}
 use Rattle.msg_races.proofs.SortedLists.{in_parts}

@@ -1,12 +1,12 @@
 //! Drawing a run.
-ghost use Rattle.std.specs.Prelude.{◌≡◌, ◌<◌, ◌++◌, ◌∷◌, ◌^◌, [], ℕ, IfOk, OnOk, Option, Some, None, flat_map, length, slice_get, slice_index};
+ghost use Rattle.std.specs.Prelude.{◌≡◌, ◌<◌, ◌++◌, ◌∷◌, ◌^◌, [], ℕ, IfOk, Ok, OnOk, Option, Some, None, flat_map, length, slice_get, slice_index};
 ghost use Rattle.std.specs.List.{list_any};
 ghost use Rattle.mpi_call.specs.declared.reply.Item.{Item as ItemSpec};
 ghost use Rattle.causes.specs.Clocks.{AreOfRanks};
 ghost use Rattle.causes.specs.Positions.{is_event_of, positions, start_position};
 ghost use Rattle.group_plan.specs.Plans.{group_of, number_of_ranks};
 ghost use Rattle.msg_races.specs.Listing.{lists_below};
-ghost use Rattle.run_drawing.specs.Drawings.{IsDrawing, arrow_from, collective_at, collective_by, collective_of, rank_groups, is_wildcard_at, latest_of, mark_at, marks_from, drawn_marks, of_events, of_starts, probe_at, probe_by, takes_wildcard, takes_wildcard_in, unreceived_at, unreceived_by, unreceived_of};
+ghost use Rattle.run_drawing.specs.Drawings.{IsDrawing, arrow_from, collective_at, collective_by, collective_of, drawn, rank_groups, is_wildcard_at, latest_of, mark_at, marks_from, drawn_marks, of_events, of_starts, probe_at, probe_by, takes_wildcard, takes_wildcard_in, unreceived_at, unreceived_by, unreceived_of};
 ghost use Rattle.run_drawing.specs.inside.Scenes.{IsScene, basis_of};
 
 use crate::drawing::{Arrow, Drawing, DrawnCollective, DrawnMark, Point, Unreceived};
@@ -25,17 +25,42 @@ pub fn draw(alloc: Global, plan: &Plan, history: &History) -> Result<Drawing, Al
     requires { AreOfRanks (number_of_ranks plan.now) history.now.events }
     ensures { IfOk result (λ drawing. IsDrawing plan.now history.now.events drawing) }
 {
-    let n = plan.n();
-    let scene = see(alloc, n, history.as_slice())?;
+    let scene = see(alloc, plan.n(), history.as_slice())?;
     scene.causes.tells();
+    drawing_of(alloc, plan, &scene)
+}
+
+/// What two calls found, where both had memory.
+fn both<A: Drop, B: Drop>(
+    first: Result<A, AllocError>,
+    second: Result<B, AllocError>,
+) -> Result<(A, B), AllocError>
+    ensures { IfOk result (λ found. (first ≡ Ok found.0) × (second ≡ Ok found.1)) }
+{
+    let first = first?;
+    Ok((first, second?))
+}
+
+/// The drawing of a scene of a plan's ranks.
+fn drawing_of(alloc: Global, plan: &Plan, scene: &Scene<'_>) -> Result<Drawing, AllocError>
+    requires scene { IsScene scene.now }
+    requires ranks { scene.now.causes.ranks ≡ number_of_ranks plan.now }
+    ensures { IfOk result (λ drawing. drawing ≡ drawn plan.now (basis_of scene.now)) }
+{
+    let n = plan.n();
+    let marks = all_marks(alloc, n, scene);
+    let (marks, receives) = both(marks, all_receives(alloc, n, scene))?;
+    let unreceived = all_unreceived(alloc, n, scene);
+    let rest = both(all_probes(alloc, n, scene), unreceived);
+    let (collectives, (probes, unreceived)) = both(all_collectives(alloc, n, scene), rest)?;
     Ok(Drawing {
         groups: groups_of(alloc, plan)?,
         columns: scene.columns(),
-        marks: all_marks(alloc, n, &scene)?,
-        receives: all_receives(alloc, n, &scene)?,
-        collectives: all_collectives(alloc, n, &scene)?,
-        probes: all_probes(alloc, n, &scene)?,
-        unreceived: all_unreceived(alloc, n, &scene)?,
+        marks,
+        receives,
+        collectives,
+        probes,
+        unreceived,
     })
 }
 

@@ -100,6 +100,8 @@ pub fn see<'a>(alloc: Global, n: u8, events: &'a [Event]) -> Result<Scene<'a>, A
     ensures ranks { IfOk result (λ scene. scene.causes.ranks ≡ n) }
     ensures events { IfOk result (λ scene. scene.causes.events ≡ events.now) }
 {
+    let causes = Causes::new(alloc, n, events)?;
+    let sends = sends_of(alloc, events)?;
     let Tracing {
         tables: _,
         depths,
@@ -108,11 +110,11 @@ pub fn see<'a>(alloc: Global, n: u8, events: &'a [Event]) -> Result<Scene<'a>, A
     } = trace(alloc, n, events)?;
     let behind = behind_all(events, depths.as_slice());
     Ok(Scene {
-        causes: Causes::new(alloc, n, events)?,
+        causes,
         depths,
         late,
         links,
-        sends: sends_of(alloc, events)?,
+        sends,
         behind,
     })
 }

@@ -1,6 +1,6 @@
 -- The communicators that a rank knows, and the instances of collectives.
 -- (MPI 3.1, Groups, Contexts, and Communicators; Collective Communication: "all members call in the same order".)
-use Rattle.std.specs.Prelude.{ℕ, suc, List, [], ◌∷◌, Option, Some, None, Bool, false, ◌==◌, if◌then◌else◌, slice_get, take}
+use Rattle.std.specs.Prelude.{ℕ, suc, List, [], ◌∷◌, Option, Some, None, Bool, false, ◌&&◌, ◌==◌, if◌then◌else◌, slice_get, take}
 use Rattle.mpi_call.specs.declared.call.Call.{Call}
 use Rattle.mpi_call.specs.declared.call.Call.TheVariants.{Enter}
 use Rattle.mpi_call.specs.declared.reply.Got.{Got}
@@ -8,6 +8,7 @@ use Rattle.mpi_call.specs.declared.reply.Got.TheVariants.{Made}
 use Rattle.mpi_call.specs.declared.reply.Item.{Item}
 use Rattle.mpi_call.specs.declared.reply.Reply.{Reply}
 use Rattle.mpi_call.specs.declared.reply.Reply.TheVariants.{Took}
+use Rattle.run_model.specs.declared.event.Event.{Event}
 use Rattle.run_model.specs.Lists.{world}
 use Rattle.run_model.specs.Views.{View, is_start, starts_of}
 
@@ -64,6 +65,10 @@ pub record Entered : Type 0 where
 abbrev pub is_on : ℕ → Call → Bool
 is_on comm (Enter c kind root op count ints) = c == comm
 is_on comm call = false
+
+-- an Enter of the rank on the communicator
+abbrev pub is_enter_of : ℕ → ℕ → Event → Bool
+is_enter_of rank comm event = is_start (event.call, event.reply) && (is_on comm event.call && (event.rank == rank))
 
 -- the Enters of a view on a communicator; `number` is that of the view's first start
 abbrev pub entered_from : ℕ → ℕ → Option (List ℕ) → View → List Entered

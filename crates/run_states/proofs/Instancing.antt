@@ -10,14 +10,14 @@ use Rattle.mpi_call.specs.declared.call.Kind.TheVariants.{Barrier, Bcast, Reduce
 use Rattle.mpi_call.specs.declared.call.Op.{Op}
 use Rattle.mpi_call.specs.Calls.{comm_of, ints_of}
 use Rattle.run_model.specs.declared.event.Event.{Event}
-use Rattle.run_model.specs.Communicators.{Entered, count_on, enter_at, entered_from, is_on, known_after, known_first, learned, members_for_rank, or_none}
+use Rattle.run_model.specs.Communicators.{Entered, count_on, enter_at, entered_from, is_enter_of, is_on, known_after, known_first, learned, members_for_rank, or_none}
 use Rattle.run_model.specs.Inputs.{push_ints, with_ints}
 use Rattle.run_model.specs.Lists.{world}
 use Rattle.run_model.specs.Numbers.{Origin, colours_entered, colours_made, entered_by_all, made_at, origins_from}
 use Rattle.run_model.specs.Views.{View, is_start, starts_of, view_of}
 use Rattle.run_model.proofs.CommunicatorLaws.{known_after-some}
 use Rattle.run_model.proofs.Views.{test_cases}
-use Rattle.run_states.specs.inside.Origins.{colour_origins, enter_calls_on, if_entered, is_enter_of, origins_made}
+use Rattle.run_states.specs.inside.Origins.{colour_origins, enter_calls_on, if_entered, origins_made}
 
 -- 1. an event and those behind it
 
@@ -32,7 +32,13 @@ enters_front comm rank event after =
         ])
         | inr s ↦ rw s refl
       ])
-      | inr f ↦ rw f refl
+      | inr f ↦ rw f (elim (test_cases (is_start (event.call, event.reply))) [
+        | inl s ↦ rw s (elim (test_cases (is_on comm event.call)) [
+          | inl u ↦ rw u refl
+          | inr u ↦ rw u refl
+        ])
+        | inr s ↦ rw s refl
+      ])
     ]
 
 pub count_front : (comm rank : ℕ) (event : Event) (after : List Event)
@@ -46,7 +52,13 @@ count_front comm rank event after =
         ])
         | inr s ↦ rw s refl
       ])
-      | inr f ↦ rw f refl
+      | inr f ↦ rw f (elim (test_cases (is_start (event.call, event.reply))) [
+        | inl s ↦ rw s (elim (test_cases (is_on comm event.call)) [
+          | inl u ↦ rw u refl
+          | inr u ↦ rw u refl
+        ])
+        | inr s ↦ rw s refl
+      ])
     ]
 
 -- 2. what was entered

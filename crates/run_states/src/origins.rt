@@ -1,12 +1,12 @@
 //! The communicators that a history made.
 ghost use Rattle.std.specs.Prelude.{◌≡◌, ◌++◌, ◌∷◌, [], ℕ, IfOk, None, OnOk, option_map, slice_get};
 ghost use Rattle.mpi_call.specs.Calls.{ints_of};
-ghost use Rattle.run_model.specs.Communicators.{count_on, known_after, members_for_rank};
+ghost use Rattle.run_model.specs.Communicators.{count_on, is_enter_of, is_on, known_after, members_for_rank};
 ghost use Rattle.run_model.specs.Lists.{world};
 ghost use Rattle.run_model.specs.Numbers.{communicators_of, entered_by_all, made_at};
 ghost use Rattle.run_model.specs.Views.{starts_of, view_of};
 ghost use Rattle.run_states.specs.Codes.{code_of_made, code_of_origin};
-ghost use Rattle.run_states.specs.inside.Origins.{colour_origins, enter_calls_on, if_entered, is_enter_of, origins_made};
+ghost use Rattle.run_states.specs.inside.Origins.{colour_origins, enter_calls_on, if_entered, origins_made};
 
 use crate::code::{StateCode, add_ints};
 use comms::colours::colours_of;
@@ -35,17 +35,21 @@ impl Model for Origin {
     ghost view = { λ s. record { comm = s.comm; instance = s.instance; colour = s.colour } };
 }
 
+/// Whether a call is an Enter on a communicator.
+fn is_on(comm: Comm, call: &Call) -> bool
+    ensures { result ≡ is_on comm call.now }
+{
+    match call {
+        Call::Enter { comm: other, .. } => *other == comm,
+        _ => false,
+    }
+}
+
 /// Whether an event is an Enter of a rank on a communicator.
 fn is_enter(event: &Event, rank: u8, comm: Comm) -> bool
     ensures { result ≡ is_enter_of rank comm event.now }
 {
-    if event.rank != rank || !is_start(&event.call, &event.reply) {
-        return false;
-    }
-    match &event.call {
-        Call::Enter { comm: other, .. } => *other == comm,
-        _ => false,
-    }
+    is_start(&event.call, &event.reply) && is_on(comm, &event.call) && event.rank == rank
 }
 
 /// How many Enters a rank made on a communicator.

@@ -3,11 +3,12 @@ ghost use Rattle.std.specs.Prelude.{◌≡◌, ◌++◌, OnOk, codes, true};
 ghost use Rattle.mpi_call.specs.Calls.{is_enter};
 ghost use Rattle.mpi_call.specs.declared.call.Call.TheVariants.{Peek, Post, Send, Take};
 ghost use Rattle.wiz_base.specs.Decimals.{number_text};
-ghost use Rattle.run_text.specs.CallTexts.{aborter_text, at_start_text, call_text, envelope_text, fault_text, got_text, halt_text, taken_item_text, joined, kind_text, mode_text, name_text, op_text, probe_text, reply_text, root_text, send_text, source_text, tag_text};
+ghost use Rattle.run_text.specs.CallTexts.{aborter_text, at_start_text, call_text, envelope_text, fault_text, got_text, halt_text, taken_item_text, joined, kind_text, mode_text, op_text, probe_text, reply_text, root_text, send_text, source_text, tag_text};
 
 use mpi_call::call::{Call, Fault, Halt, Kind, Op, Source, Tag, TakeMode};
 use mpi_call::reply::{Got, Item, Reply};
-use srr_log::spelled::{Spelled, push_by_commas};
+use srr_log::entry_text::push_name;
+use srr_log::spelled::push_by_commas;
 use std::alloc::AllocError;
 use wiz_base::{Bytes, push_decimal, push_number, push_text};
 
@@ -15,22 +16,6 @@ fn push_int(out: &mut Bytes, int: i32) -> Result<(), AllocError>
     ensures { OnOk result (out.new ≡ out.old ++ number_text int) }
 {
     push_number(out, int as i64)
-}
-
-/// Some numbers with commas between them.
-pub fn push_list<T: Spelled>(out: &mut Bytes, numbers: &[T]) -> Result<(), AllocError>
-    ensures { OnOk result (out.new ≡ out.old ++ joined (codes ",") T.text numbers.now) }
-{
-    push_by_commas(out, numbers)
-}
-
-/// A message's name.
-pub fn push_name(out: &mut Bytes, source: u8, start: u32) -> Result<(), AllocError>
-    ensures { OnOk result (out.new ≡ out.old ++ name_text source start) }
-{
-    push_decimal(out, source as u64)?;
-    push_text(out, b".")?;
-    push_decimal(out, start as u64)
 }
 
 fn push_source(out: &mut Bytes, source: &Source) -> Result<(), AllocError>
@@ -184,7 +169,7 @@ fn push_send(
     push_text(out, b" tag=")?;
     push_decimal(out, tag as u64)?;
     push_text(out, b" data=")?;
-    push_list(out, ints)
+    push_by_commas(out, ints)
 }
 
 fn push_send_verb(out: &mut Bytes, sync: bool) -> Result<(), AllocError>
@@ -218,7 +203,7 @@ fn push_take(out: &mut Bytes, starts: &[u32], mode: TakeMode) -> Result<(), Allo
     push_text(out, b"take ")?;
     push_mode(out, mode)?;
     push_text(out, b" ")?;
-    push_list(out, starts)
+    push_by_commas(out, starts)
 }
 
 fn push_peek(
@@ -283,7 +268,7 @@ fn push_enter(out: &mut Bytes, call: &Call) -> Result<(), AllocError>
     push_text(out, b" count=")?;
     push_decimal(out, *count as u64)?;
     push_text(out, b" data=")?;
-    push_list(out, ints.as_slice())?;
+    push_by_commas(out, ints.as_slice())?;
     Ok(())
 }
 
@@ -359,18 +344,18 @@ fn push_got(out: &mut Bytes, got: &Got) -> Result<(), AllocError>
             push_text(out, b" tag=")?;
             push_decimal(out, *tag as u64)?;
             push_text(out, b" data=")?;
-            push_list(out, ints.as_slice())
+            push_by_commas(out, ints.as_slice())
         }
         Got::Joined { ints } => {
             push_text(out, b"result data=")?;
-            push_list(out, ints.as_slice())?;
+            push_by_commas(out, ints.as_slice())?;
             Ok(())
         }
         Got::Made { comm, members } => {
             push_text(out, b"made comm=")?;
             push_decimal(out, *comm as u64)?;
             push_text(out, b" members=")?;
-            push_list(out, members.as_slice())
+            push_by_commas(out, members.as_slice())
         }
     }
 }

@@ -70,7 +70,8 @@ fn push_int_after(out: &mut Bytes, word: &[u8], int: i32) -> Result<(), AllocErr
     push_number(out, int as i64)
 }
 
-fn push_name(out: &mut Bytes, source: u8, start: u32) -> Result<(), AllocError>
+/// A message's name: its sender, and the number of its start among that rank's.
+pub fn push_name(out: &mut Bytes, source: u8, start: u32) -> Result<(), AllocError>
     ensures { OnOk result (out.new ≡ out.old ++ name_text source start) }
 {
     push_decimal(out, source as u64)?;

@@ -14,7 +14,7 @@ use mpi_call::call::{Call, Halt, Source, Tag};
 use mpi_call::lists::Ranks;
 use run_model::ending::Ending;
 use run_model::lists::Outputs;
-use run_text::call_text::push_list;
+use srr_log::spelled::push_by_commas;
 use std::alloc::{AllocError, Global};
 use wait_graph::graph::{Blocked, Graph};
 use wait_graph::wait::Wait;
@@ -389,7 +389,7 @@ fn push_entering(out: &mut Bytes, awaited: &[u8]) -> Result<(), AllocError>
     ensures { OnOk result (out.new ≡ out.old ++ entering_text awaited.now) }
 {
     push_text(out, b"waits for ")?;
-    push_list(out, awaited)?;
+    push_by_commas(out, awaited)?;
     push_text(out, b" to enter")
 }
 

@@ -14,7 +14,8 @@ use mpi_call::lists::Ranks;
 use mpi_call::reply::{Got, Item, Reply};
 use run_drawing::drawing::DrawnMark;
 use run_model::by_rank::ByRank;
-use run_text::call_text::{push_call, push_kind, push_list, push_reply};
+use run_text::call_text::{push_call, push_kind, push_reply};
+use srr_log::spelled::push_by_commas;
 use std::alloc::{AllocError, Global};
 use wiz_base::{Bytes, push_decimal, push_text};
 
@@ -406,7 +407,7 @@ fn push_from(
                 b"<text class=\"w\" x=\"%\" y=\"%\">from ",
                 &[Filler::Number(x - 16), Filler::Number(y - 12)],
             )?;
-            push_list(out, sources.as_slice())?;
+            push_by_commas(out, sources.as_slice())?;
             push_text(out, b"</text>\n")?;
             Ok(())
         }

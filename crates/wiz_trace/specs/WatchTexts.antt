@@ -1,7 +1,7 @@
 -- The text of the changes of a variable.
 use Rattle.std.specs.Prelude.{ℕ, ℤ, List, ◌++◌, Option, Some, None, codes, flat_map, length}
 use Rattle.replay_views.specs.declared.changes.Change.{Change}
-use Rattle.run_text.specs.CallTexts.{ints_text}
+use Rattle.srr_log.specs.EntryText.{ints_text}
 use Rattle.wiz_base.specs.Decimals.{decimal_text}
 
 -- the values with commas between them · - where no such variable stands

@@ -4,7 +4,7 @@ ghost use Rattle.wiz_trace.specs.WatchTexts.{changed_values_text, change_text, c
 
 use mpi_call::lists::Ints;
 use replay_views::changes::{Change, Changes};
-use run_text::call_text::push_list;
+use srr_log::spelled::push_by_commas;
 use std::alloc::{AllocError, Global};
 use wiz_base::{Bytes, push_decimal, push_text};
 
@@ -65,7 +65,7 @@ fn push_values(out: &mut Bytes, values: &Option<Ints>) -> Result<(), AllocError>
 {
     match values {
         None => push_text(out, b"-"),
-        Some(values) => push_list(out, values.as_slice()),
+        Some(values) => push_by_commas(out, values.as_slice()),
     }
 }
 

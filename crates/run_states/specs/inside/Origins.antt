@@ -1,16 +1,11 @@
 -- What is looked up to tell which communicators a history made.
-use Rattle.std.specs.Prelude.{ℕ, ℤ, List, [], ◌∷◌, Option, Some, None, Bool, ◌&&◌, ◌==◌, Result, Ok, Err, filter, map}
+use Rattle.std.specs.Prelude.{ℕ, ℤ, List, [], ◌∷◌, Option, Some, None, Result, Ok, Err, filter, map}
 use Rattle.mpi_call.specs.declared.call.Call.{Call}
 use Rattle.mpi_call.specs.declared.call.Kind.{Kind}
 use Rattle.mpi_call.specs.declared.call.Kind.TheVariants.{Split, Dup}
-use Rattle.run_model.specs.declared.event.Event.{Event}
 use Rattle.run_model.specs.Communicators.{is_on}
 use Rattle.run_model.specs.Numbers.{Origin, colours_entered}
-use Rattle.run_model.specs.Views.{View, is_start, starts_of}
-
--- an event is an Enter of this rank on this communicator
-abbrev pub is_enter_of : ℕ → ℕ → Event → Bool
-is_enter_of rank comm event = (event.rank == rank) && (is_start (event.call, event.reply) && is_on comm event.call)
+use Rattle.run_model.specs.Views.{View, starts_of}
 
 -- the Enters of a view on a communicator, in order
 abbrev pub enter_calls_on : ℕ → View → List Call

@@ -13,11 +13,11 @@ pub returns-clause-scene : goal.returns-clause-scene
 returns-clause-scene c = scene_is c.args.n c.args.events.now c.in_ok-depths.field-0 _ (record {
   short = c.requires.short;
   traced = c.in_ok-depths.ensures;
-  ranks = c.in_ok-new.ensures.ranks;
-  events_are = c.in_ok-new.ensures.events;
+  ranks = c.in_ok-causes.ensures.ranks;
+  events_are = c.in_ok-causes.ensures.events;
   depths = refl;
   late = refl;
   links = refl;
-  sends = c.in_ok-sends_of.ensures;
+  sends = c.in_ok-sends.ensures;
   behind = c.behind_all-behind.ensures ∙ ap (λ (l : List ℕ). behind_all c.args.events.now l) c.as_slice.ensures.value;
 })

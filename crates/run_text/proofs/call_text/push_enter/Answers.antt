@@ -5,7 +5,7 @@ pub returns : goal.returns
 returns c =
     rw (
       c.in-Enter.is,
-      c.in_ok-push_list.ensures,
+      c.in_ok-push_by_commas.ensures,
       c.as_slice.ensures,
       c.in_ok-push_text-6.ensures.ok,
       c.in_ok-push_decimal-2.ensures.ok,

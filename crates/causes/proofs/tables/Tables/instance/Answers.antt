@@ -1,7 +1,8 @@
 use Rattle.std.proofs.Common.{◌≡◌, ℕ, List, ap, subst, sym, ◌∙◌}
 use Rattle.std.specs.List.Sorted.{IsNonDecreasingBy}
 use Rattle.mpi_call.specs.Lists.{count_below}
-use Rattle.causes.specs.Positions.{is_enter_of, positions}
+use Rattle.run_model.specs.Communicators.{is_enter_of}
+use Rattle.causes.specs.Positions.{positions}
 use Rattle.causes.specs.Tables.{positions_of_key}
 use Rattle.causes.proofs.PositionLemmas.{count_below-positions, positions-sorted}
 use Rattle.causes.proofs.tables.Tables.instance.Goals as goal
