@@ -7,9 +7,9 @@ limits that stand as bare numbers where their constants should.
     .ci/names.py --write     writes the list; it is to grow shorter
 
 A definition is one of `specs/`, whether private or not; a type is a struct, enum, trait or alias of `src/`, or a type that a trait asks
-for (what an implementation gives for it is no name of its own). A limit is a `pub const` of `src/` of at least 1,000, and it stands
-bare in `specs/` where its number does; the page that tells a reader the numbers of all limits is the place for them. Crates of tests
-and benchmarks do not count: nobody reads them to learn a word.
+for (what an implementation gives for it is no name of its own). A limit is a constant of `src/` of at least 1,000, and it stands bare
+in `specs/` where its number does, which another constant may have too; the page that tells a reader the numbers of all limits is the
+place for them. Crates of tests and benchmarks do not count: nobody reads them to learn a word.
 """
 import importlib.util
 import re
@@ -24,9 +24,9 @@ LEAST_LIMIT = 1000
 LIMITS_TOLD = "crates/wiz_cli/specs/Limits.antt"
 
 TYPE = re.compile(r"^\s*(?:pub(?:\([a-z]+\))? )?(?:struct|enum|trait) (\w+)|^(?:pub(?:\([a-z]+\))? )?type (\w+)|^\s+type (\w+)[;:]", re.M)
-LIMIT = re.compile(r"^\s*pub const (\w+): [ui]\w+ = ([\d_]+);", re.M)
+LIMIT = re.compile(r"^\s*(?:pub(?:\([a-z]+\))? )?const (\w+): [ui]\w+ = ([\d_]+);", re.M)
 NUMBER = re.compile(r"(?<![\w.'])\d+(?![\w'])")
-TEXT = re.compile(r'"[^"\n]*"|--.*')
+TEXT = re.compile(r'"(?:[^"\\\n]|\\.)*"|--.*')
 PARAMETERS = re.compile(r"\(([^():]+):")
 BRACKETS = re.compile(r"[({\[][^(){}\[\]]*[)}\]]")
 
@@ -63,6 +63,8 @@ def limits():
     """The names of each limit's number."""
     names = defaultdict(set)
     for path in (TOP / "crates").glob("*/src/**/*.rt"):
+        if not is_read(path.relative_to(TOP / "crates").parts[0]):
+            continue
         for name, digits in LIMIT.findall(path.read_text()):
             if int(digits) >= LEAST_LIMIT:
                 names[int(digits)].add(name)
@@ -78,7 +80,7 @@ def bare_limits():
             continue
         for number in NUMBER.findall(TEXT.sub("", path.read_text())):
             if int(number) in names:
-                yield f"{place}: {number}, which is {' or '.join(sorted(names[int(number)]))}"
+                yield f"{place}: {number}, the number of {' or '.join(sorted(names[int(number)]))}"
 
 
 def arguments_of(head):
