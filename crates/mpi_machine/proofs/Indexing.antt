@@ -12,10 +12,10 @@ use Rattle.run_model.specs.declared.event.Event.{Event}
 use Rattle.run_model.specs.Allowed.{flags_of}
 use Rattle.run_model.specs.Chosen.{halt_or}
 use Rattle.run_model.specs.Due.{bad_request, due}
-use Rattle.run_model.specs.Views.{Next, View, moment_at, view_of}
+use Rattle.run_model.specs.Views.{Next, moment_at, view_of}
 use Rattle.picked_runs.specs.declared.turn.Pick.{Pick}
 use Rattle.picked_runs.specs.declared.turn.Pick.TheVariants.{First, Index}
-use Rattle.picked_runs.specs.Picks.{completes_one, has_pick, is_ready_at, picked_answer}
+use Rattle.picked_runs.specs.Picks.{completes_one, has_pick, is_ready_at, picked_answer, picked_reply}
 use Rattle.picked_runs.proofs.Making.{has_it}
 use Rattle.requests.specs.declared.requests.TakeAnswer.{TakeAnswer}
 use Rattle.requests.specs.declared.requests.TakeAnswer.TheVariants.{Took, NotReady, TooLong, BadStart}
@@ -55,18 +55,22 @@ at_offered n events rank starts mode index reply free one taken =
     let parts = and_parts (not (is_some (bad_request (view_of events rank) [] starts))) ready taken.can in
     has_it n events rank call (Index index) (at_free n events rank starts mode index reply free taken) (both (completes_one call) ready (completes starts mode ∙ one) parts.1)
 
+-- what its completion answers
+pub at_reply : (n : ℕ) (events : List Event) (rank : ℕ) (starts : List ℕ) (mode : TakeMode) (index : ℕ) (reply : Reply) → bound_of events ≡ None
+    → takes_one mode ≡ true → IsTakenAt n events rank starts index reply → picked_reply n events rank (Take starts mode) (Index index) ≡ reply
+at_reply n events rank starts mode index reply free one taken =
+    ap (λ (o : Option Halt). halt_or o (picked_answer n events rank (view_of events rank) (Take starts mode) (Index index))) (at_free n events rank starts mode index reply free taken)
+    ∙ taken.reply_is mode one
+
 -- a start that can be taken is what the call picks, with what is written down of it
 pub at_picks : (next : Next) (n : ℕ) (picks : List Pick) (events : List Event) (rank : ℕ) (starts : List ℕ) (mode : TakeMode) (index : ℕ) (written : Pick) (reply : Reply) → IsMadeByPicks next n picks events
     → IsAsked next n events rank (Take starts mode) → bound_of events ≡ None → takes_one mode ≡ true → IsTakenAt n events rank starts index reply
     → (has_pick n events rank (Take starts mode) (Index index) ≡ true → IsWritten n events rank (Take starts mode) (Index index) written)
     → HasPicked next (moment_at n events rank) (Take starts mode) written reply
 at_picks next n picks events rank starts mode index written reply made asked free one taken is =
-    let own : View = view_of events rank in
-    let call : Call = Take starts mode in
     let offered = at_offered n events rank starts mode index reply free one taken in
-    let none : due n events rank own call ≡ None = at_free n events rank starts mode index reply free taken in
-    has_written next n picks events rank call (Index index) written reply made asked (index_apart index) offered
-    (ap (λ (o : Option Halt). halt_or o (picked_answer n events rank own call (Index index))) none ∙ taken.reply_is mode one) (is offered)
+    has_written next n picks events rank (Take starts mode) (Index index) written reply made asked (index_apart index) offered
+    (at_reply n events rank starts mode index reply free one taken) (is offered)
 
 -- there is no answer but these
 pub no_other : (n : ℕ) (events : List Event) (rank : ℕ) (starts : List ℕ) (index : ℕ) (answer : TakeAnswer) → AnswersAt n events rank starts index (Some answer)

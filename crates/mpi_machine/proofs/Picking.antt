@@ -139,11 +139,25 @@ peek_picks next n picks events rank (Peek comm source tag wait) sender at writte
     has_written next n picks events rank call (Sender sender) written reply made asked (sender_apart sender) offered reply_is (is offered)
 peek_picks next n picks events rank call sender at written reply made asked peek free found same is = absurd (cc)
 
+pub picked_idle : (n : ℕ) (events : List Event) (rank : ℕ) (call : Call) (pick : Pick) (reply : Reply) → picked_reply n events rank call pick ≡ reply
+    → is_start (call, reply) ≡ false → picked_event n events rank call pick ≡ event_with rank call reply None
+picked_idle n events rank call pick reply is idle =
+    let none : picked_mate events rank call reply pick ≡ None = rw idle refl in
+    event_is n events rank call pick reply None is none
+
 pub idle_picked : (next : Next) (n : ℕ) (events : List Event) (rank : ℕ) (call : Call) (pick : Pick) (reply : Reply) → HasPicked next (moment_at n events rank) call pick reply
     → is_start (call, reply) ≡ false → picked_event n events rank call pick ≡ event_with rank call reply None
-idle_picked next n events rank call pick reply has idle =
-    let none : picked_mate events rank call reply pick ≡ None = rw idle refl in
-    event_is n events rank call pick reply None has.reply_is none
+idle_picked next n events rank call pick reply has idle = picked_idle n events rank call pick reply has.reply_is idle
+
+-- a pick that can be made is answered, and the machine is then this
+pub picked_is : (n : ℕ) (events : List Event) (rank : ℕ) (call : Call) (pick : Pick) (reply : Reply) → has_pick n events rank call pick ≡ true
+    → picked_reply n events rank call pick ≡ reply → Some reply ≡ picked_of n events rank call pick
+picked_is n events rank call pick reply offered is = rw offered (ap (λ (r : Reply). Some r) (sym is))
+
+pub after_event : {P : Type 0} (program : P) (n : ℕ) (events : List Event) (kept : List (Option Call)) (rank : ℕ) (call : Call) (pick : Pick) (reply : Reply) (event : Event)
+    → picked_event n events rank call pick ≡ event
+    → machine_with program n (events ++ event ∷ []) (slice_set kept rank None) ≡ after_pick (machine_with program n events kept) rank call pick (Some reply)
+after_event program n events kept rank call pick reply event is = ap (λ (e : Event). machine_with program n (events ++ e ∷ []) (slice_set kept rank None)) (sym is)
 
 -- the reply may be given
 pub picked_given : {P : Type 0} (next : Next) (machine later : MachineState P) (rank : ℕ) (call : Call) (pick : Pick) (answer : Option Reply) (reply : Reply)

@@ -167,9 +167,7 @@ impl<'a, P: Program> Machine<'a, P> {
     {
         let pick = self.pick_of_sender(rank, &call, sender);
         self.requests.knows_on();
-        self.course.reserve()?;
-        let at = self.course.history().len();
-        self.picks.reserve(at)?;
+        let at = prepare_pick(&mut self.course, &mut self.picks)?;
         let Some(mate) = self.requests.post_from(at, rank, &call, sender)? else {
             return Ok(None);
         };
@@ -365,9 +363,7 @@ impl<'a, P: Program> Machine<'a, P> {
         ensures err { OnErr result (self.new ≡ self.old) }
     {
         self.requests.knows_on();
-        self.course.reserve()?;
-        let at = self.course.history().len();
-        self.picks.reserve(at)?;
+        let at = prepare_pick(&mut self.course, &mut self.picks)?;
         let copied = reply::copy_of(&reply)?;
         note(&mut self.picks, at, pick);
         self.course.append(Event {
@@ -465,8 +461,7 @@ impl<'a, P: Program> Machine<'a, P> {
         ensures err { OnErr result (self.new ≡ self.old) }
     {
         self.requests.knows_on();
-        self.course.reserve()?;
-        let copied = reply::copy_of(&reply)?;
+        let copied = prepare_reply(&mut self.course, &reply)?;
         self.course.append(Event {
             rank,
             call,
@@ -735,6 +730,33 @@ fn note(picks: &mut Picks, at: u32, pick: Pick)
         Pick::First => {}
         _ => picks.put(at, pick),
     }
+}
+
+/// Room for an event and for what it picks. Answers the event's position.
+fn prepare_pick(course: &mut Course, picks: &mut Picks) -> Result<u32, AllocError>
+    ensures ranks { course.new.ranks ≡ course.old.ranks }
+    ensures events { course.new.events ≡ course.old.events }
+    ensures kept { course.new.kept ≡ course.old.kept }
+    ensures room { OnOk result (0 < course.new.spare) }
+    ensures picks { picks.new.written ≡ picks.old.written }
+    ensures at { IfOk result (λ at. (at ≡ length course.old.events) × (at < picks.new.room)) }
+{
+    course.reserve()?;
+    let at = course.history().len();
+    picks.reserve(at)?;
+    Ok(at)
+}
+
+/// Room for an event, and a copy of its reply.
+fn prepare_reply(course: &mut Course, reply: &Reply) -> Result<Reply, AllocError>
+    ensures ranks { course.new.ranks ≡ course.old.ranks }
+    ensures events { course.new.events ≡ course.old.events }
+    ensures kept { course.new.kept ≡ course.old.kept }
+    ensures room { OnOk result (0 < course.new.spare) }
+    ensures copied { IfOk result (λ copied. copied ≡ reply.now) }
+{
+    course.reserve()?;
+    reply::copy_of(reply)
 }
 
 /// Room for an event, and a copy of its items.

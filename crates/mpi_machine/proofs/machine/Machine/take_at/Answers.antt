@@ -10,10 +10,14 @@ use Rattle.requests.specs.declared.requests.TakeAnswer.TheVariants.{Took, TooLon
 use Rattle.requests.specs.Histories.{AnswersAt, IsTakenAt, KnowsTakenAt, took_event}
 use Rattle.requests.specs.States.{with_rows}
 use Rattle.requests.specs.Taking.{AreHandedOut, answer_at, rows_at}
+use Rattle.picked_runs.specs.declared.turn.Pick.{Pick}
+use Rattle.picked_runs.specs.declared.turn.Pick.TheVariants.{Index}
+use Rattle.mpi_machine.specs.Picking.{after_pick}
+use Rattle.mpi_machine.specs.Turns.{MachineState}
 use Rattle.mpi_machine.proofs.Growing.{event_with}
-use Rattle.mpi_machine.proofs.Indexing.{at_picks, no_other}
-use Rattle.mpi_machine.proofs.Moving.{last_idle, live_in}
-use Rattle.mpi_machine.proofs.Picking.{idle_picked, picked_keeps}
+use Rattle.mpi_machine.proofs.Indexing.{at_offered, at_picks, at_reply, no_other}
+use Rattle.mpi_machine.proofs.Moving.{last_idle, live_in, machine_with}
+use Rattle.mpi_machine.proofs.Picking.{after_event, idle_picked, picked_idle, picked_is, picked_keeps}
 use Rattle.mpi_machine.proofs.machine.Machine.take_at.Goals as goal
 
 pub took-requires-clause-live : goal.took-requires-clause-live
@@ -98,3 +102,50 @@ unreachable-requires g c =
     let F : Option TakeAnswer → Type 0 = λ a. AnswersAt n events c.args.rank c.args.starts c.args.index a in
     no_other n events c.args.rank c.args.starts c.args.index c.in-Some.answer
     (subst F c.in-Some.is (c.in_ok-answer.ensures.knows n events c.self.invariant.knows)) c.in_default-answer.not-Took c.in_default-answer.not-TooLong
+
+pub returns-in_ok-reply-in-Took : goal.returns-in_ok-reply-in-Took
+returns-in_ok-reply-in-Took g c =
+    let n : ℕ = c.self.inside.course.ranks in
+    let events : List Event = c.self.inside.course.events in
+    let call : Call = Take c.args.starts c.args.mode in
+    let pick : Pick = Index c.args.index in
+    let free = rw (← c.self.view_is) at c.requires.bound in
+    let is : c.in_ok-answer.field-0 ≡ Some (Took c.in-Took.items) = c.in-Some.is ∙ ap (λ (a : TakeAnswer). Some a) c.in-Took.is in
+    let F : Option TakeAnswer → Type 0 = λ a. AnswersAt n events c.args.rank c.args.starts c.args.index a in
+    let taken : IsTakenAt n events c.args.rank c.args.starts c.args.index (TookReply c.in-Took.items) = subst F is (c.in_ok-answer.ensures.knows n events c.self.invariant.knows) in
+    let offered = at_offered n events c.args.rank c.args.starts c.args.mode c.args.index (TookReply c.in-Took.items) free c.requires.one taken in
+    let reply_is = at_reply n events c.args.rank c.args.starts c.args.mode c.args.index (TookReply c.in-Took.items) free c.requires.one taken in
+    let G : MachineState g.row.P.Denot → Type 0 = λ m.
+    machine_with c.self.inside.program.now c.took.new.course.ranks c.took.new.course.events c.took.new.course.kept ≡ after_pick m c.args.rank call pick (Some c.in_ok-reply-in-Took.reply) in
+    record {
+      answer = rw (← c.self.view_is) (ap (λ (r : Reply). Some r) c.in_ok-reply-in-Took.ensures.reply ∙ picked_is n events c.args.rank call pick (TookReply c.in-Took.items) offered reply_is);
+      after = subst G c.self.view_is (
+          rw (c.took.ensures.ranks, c.in_ok-reply-in-Took.ensures.events, c.in_ok-reply-in-Took.ensures.kept) (
+          after_event c.self.inside.program.now n events c.self.inside.course.kept c.args.rank call pick c.in_ok-reply-in-Took.reply
+          (took_event c.args.rank c.args.starts c.args.mode c.in-Took.items) (picked_idle n events c.args.rank call pick (TookReply c.in-Took.items) reply_is refl)));
+      err = tt;
+    }
+
+pub returns-in-TooLong : goal.returns-in-TooLong
+returns-in-TooLong g c =
+    let n : ℕ = c.self.inside.course.ranks in
+    let events : List Event = c.self.inside.course.events in
+    let call : Call = Take c.args.starts c.args.mode in
+    let pick : Pick = Index c.args.index in
+    let reply : Reply = Stopped (Truncated c.args.rank c.in-TooLong.start) in
+    let free = rw (← c.self.view_is) at c.requires.bound in
+    let is : c.in_ok-answer.field-0 ≡ Some (TooLong c.in-TooLong.start) = c.in-Some.is ∙ ap (λ (a : TakeAnswer). Some a) c.in-TooLong.is in
+    let F : Option TakeAnswer → Type 0 = λ a. AnswersAt n events c.args.rank c.args.starts c.args.index a in
+    let taken : IsTakenAt n events c.args.rank c.args.starts c.args.index reply = subst F is (c.in_ok-answer.ensures.knows n events c.self.invariant.knows) in
+    let offered = at_offered n events c.args.rank c.args.starts c.args.mode c.args.index reply free c.requires.one taken in
+    let reply_is = at_reply n events c.args.rank c.args.starts c.args.mode c.args.index reply free c.requires.one taken in
+    let G : MachineState g.row.P.Denot → Type 0 = λ m.
+    machine_with c.self.inside.program.now c.append.new.self.ranks c.append.new.self.events c.append.new.self.kept ≡ after_pick m c.args.rank call pick (Some reply) in
+    record {
+      answer = rw (← c.self.view_is) (picked_is n events c.args.rank call pick reply offered reply_is);
+      after = subst G c.self.view_is (
+          rw (c.append.ensures.ranks, c.append.ensures.events, c.append.ensures.kept) (
+          after_event c.self.inside.program.now n events c.self.inside.course.kept c.args.rank call pick reply
+          (event_with c.args.rank call reply None) (picked_idle n events c.args.rank call pick reply reply_is refl)));
+      err = tt;
+    }
