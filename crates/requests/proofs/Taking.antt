@@ -32,7 +32,7 @@ use Rattle.match_core.proofs.Knowing.{knows_others}
 use Rattle.requests.specs.declared.start.MadeStart.{MadeStart}
 use Rattle.requests.specs.declared.requests.TakeAnswer.{TakeAnswer}
 use Rattle.requests.specs.declared.requests.TakeAnswer.TheVariants.{Took, NotReady, TooLong, BadStart}
-use Rattle.requests.specs.Starts.{Rows, all_marked, call_of_start, found_in, is_gone, marked, new_start, partner_name, row_of, with_row}
+use Rattle.requests.specs.Starts.{Rows, all_marked, call_of_start, found_in, is_gone, marked, partner_name, row_of, with_row}
 use Rattle.requests.specs.States.{MatchingState, RequestTable, with_rows}
 use Rattle.requests.specs.Taking.{collected_as, collected_in, got_as, got_in, inputs_in, is_complete_as, is_gathered_in, members_for, partner_message, answer_in, bad_or, held_or, places_from, takes_one, can_take_in, first_bad, first_long_in, flags_in, is_start_complete, handed_item, handed_items, long_or, rows_after}
 use Rattle.requests.specs.Histories.{Answers, IsNumbered, KnowsHistory, KnowsTaken, communicator_given, took_event}
@@ -384,10 +384,3 @@ answer_long table me starts mode long bad ready is =
     ap (λ (l : List ℕ). first_long_in table.rows me starts (map (handed_item table me starts) l)) (sym (places_are mode (flags_in table me starts))) ∙ sym is in
     ap (λ (o : Option ℕ). bad_or o (mode_holds mode (flags_in table me starts)) (first_long_in table.rows me starts all) all) bad
     ∙ (ap (λ (b : Bool). held_or b (first_long_in table.rows me starts all) all) ready ∙ ap (λ (o : Option ℕ). long_or o all) long_is)
-
--- an answer that hands out nothing leaves the starts
-pub rows_kept : (rows : Rows) (me : ℕ) (starts : List ℕ) (answer : TakeAnswer) → ((items : List Item) → answer ≡ Took items → ⊥) → rows_after rows me starts answer ≡ rows
-rows_kept rows me starts (Took items) none = absurd (none items refl)
-rows_kept rows me starts NotReady none = refl
-rows_kept rows me starts (TooLong start) none = refl
-rows_kept rows me starts (BadStart start) none = refl

@@ -23,13 +23,15 @@ ghost use Rattle.requests.specs.Histories.{Answers, AnswersAt, IsIdleEvent, IsRe
 use crate::answer::{answer, answer_at};
 use crate::complete::readiness;
 use crate::enter::{entered, joined, left};
-use crate::rows::{add_start, drop_start, mark_in, name_in, pair, put_name, reserve_to};
+use crate::rows::{
+    add_named, drop_start, mark_in, mark_picked, mark_taken, name_in, pair, put_name,
+};
 use crate::start::{RankAndStart, Row};
 use collectives::board::{Board, comm_of};
 use collectives::instances::Entered;
 use comms::communicators::Comms;
 use match_core::matcher::Matcher;
-use mpi_call::call::{Call, TakeMode, copy_of};
+use mpi_call::call::{Call, TakeMode};
 use mpi_call::lists::Starts;
 use mpi_call::reply::Items;
 use std::alloc::{AllocError, Global};
@@ -96,12 +98,14 @@ impl Requests {
         ensures value { IfOk result (λ requests. requests ≡ first_state ranks) }
         ensures knows { IfOk result (λ requests. KnowsHistory ranks [] requests) }
     {
+        let rows = empty_rows(alloc, ranks)?;
+        let comms = Comms::new(alloc, ranks)?;
         Ok(Requests {
-            rows: empty_rows(alloc, ranks)?,
+            rows,
             names: Vec::new(alloc),
             matcher: Matcher::new(alloc),
             board: Board::new(alloc),
-            comms: Comms::new(alloc, ranks)?,
+            comms,
             alloc,
         })
     }
@@ -136,9 +140,7 @@ impl Requests {
         ensures err { OnErr result (self.new ≡ self.old) }
         ensures knows { IfOk result (λ started. (n : ℕ) (events : List Event) → KnowsHistory n events self.old → at ≡ length events → KnowsStarted n events rank call.now started self.new) }
     {
-        let copied = copy_of(call)?;
-        reserve_to(&mut self.names, at)?;
-        let start = add_start(&mut self.rows, rank, copied, 0)?;
+        let start = add_named(&mut self.rows, &mut self.names, at, rank, call, 0)?;
         let Ok(mate) = matched(&mut self.matcher, at, rank, call) else {
             drop_start(&mut self.rows, rank);
             return Err(AllocError);
@@ -164,9 +166,7 @@ impl Requests {
         ensures err { OnErr result (self.new ≡ self.old) }
         ensures knows { IfOk result (λ mate. (n : ℕ) (events : List Event) → KnowsHistory n events self.old → at ≡ length events → KnowsPosted (moment_at n events rank) call.now sender mate self.new) }
     {
-        let copied = copy_of(call)?;
-        reserve_to(&mut self.names, at)?;
-        let start = add_start(&mut self.rows, rank, copied, 0)?;
+        let start = add_named(&mut self.rows, &mut self.names, at, rank, call, 0)?;
         let Some(mate) = self.matcher.post_from(rank, call, sender) else {
             drop_start(&mut self.rows, rank);
             return Ok(None);
@@ -245,10 +245,7 @@ impl Requests {
             listed,
             mode,
         )?;
-        let TakeAnswer::Took(taken) = &answer else {
-            return Ok(answer);
-        };
-        mark_in(&mut self.rows, rank, listed, taken.as_slice(), true);
+        mark_taken(&mut self.rows, rank, listed, &answer);
         Ok(answer)
     }
 
@@ -268,7 +265,7 @@ impl Requests {
         ensures knows_on { IfOk result (λ answer. (n : ℕ) (events : List Event) → KnowsHistory n events self.old → KnowsTakenAt n events rank starts.now answer self.new) }
     {
         let listed = starts.as_slice();
-        let Some(answer) = answer_at(
+        let answer = answer_at(
             self.alloc,
             &mut self.rows,
             &self.board,
@@ -276,15 +273,9 @@ impl Requests {
             rank,
             listed,
             index,
-        )?
-        else {
-            return Ok(None);
-        };
-        let TakeAnswer::Took(taken) = &answer else {
-            return Ok(Some(answer));
-        };
-        mark_in(&mut self.rows, rank, listed, taken.as_slice(), true);
-        Ok(Some(answer))
+        )?;
+        mark_picked(&mut self.rows, rank, listed, &answer);
+        Ok(answer)
     }
 
     /// Makes the starts at these items' indices such as were not taken. Right after a `take` or `take_at` that handed out the
