@@ -4,6 +4,7 @@ ghost use Rattle.c_program.specs.Values.{range, value};
 ghost use Rattle.c_program.specs.View.{pure_expr, pure_reference};
 ghost use Rattle.c_run_effects.specs.inside.Faults.{HasFault};
 
+use crate::results::{all_three, both};
 use c_program::expr::TypedExpr;
 use c_program::mpi::{Buffer, Reduction};
 use c_program::range::Range;
@@ -47,8 +48,7 @@ pub fn ints_of(buffer: &Buffer, state: &RankState) -> Result<BufferInts, Fault>
     ensures count { IfOk result (λ ints. value (pure_expr buffer.now.count) state.now ≡ Ok ints.count) }
     ensures fault { IfErr result (λ fault. HasFault fault (range (pure_reference buffer.now.cells) state.now) (λ _. value (pure_expr buffer.now.count) state.now ≡ Err fault)) }
 {
-    let cells = state.range(&buffer.cells)?;
-    let count = state.value(&buffer.count)?;
+    let (cells, count) = both(state.range(&buffer.cells), state.value(&buffer.count))?;
     Ok(BufferInts { cells, count })
 }
 
@@ -63,8 +63,7 @@ pub fn buffers_of(out: &Buffer, buffer: &Buffer, state: &RankState) -> Result<Bu
         HasFault fault (range (pure_reference buffer.now.cells) state.now) (λ _.
         value (pure_expr buffer.now.count) state.now ≡ Err fault)))) }
 {
-    let out = ints_of(out, state)?;
-    let buffer = ints_of(buffer, state)?;
+    let (out, buffer) = both(ints_of(out, state), ints_of(buffer, state))?;
     Ok(Buffers {
         out_cells: out.cells,
         out_count: out.count,
@@ -82,9 +81,9 @@ pub fn operands_of(reduction: &Reduction, state: &RankState) -> Result<Operands,
         HasFault fault (range (pure_reference reduction.now.receive) state.now) (λ _.
         value (pure_expr reduction.now.count) state.now ≡ Err fault))) }
 {
-    let send = state.range(&reduction.send)?;
-    let receive = state.range(&reduction.receive)?;
-    let count = state.value(&reduction.count)?;
+    let send = state.range(&reduction.send);
+    let receive = state.range(&reduction.receive);
+    let (send, receive, count) = all_three(send, receive, state.value(&reduction.count))?;
     Ok(Operands {
         send,
         receive,
@@ -106,8 +105,6 @@ pub fn envelope_of(
         HasFault fault (value (pure_expr tag.now) state.now) (λ _.
         value (pure_expr comm.now) state.now ≡ Err fault))) }
 {
-    let rank = state.value(rank)?;
-    let tag = state.value(tag)?;
-    let comm = state.value(comm)?;
+    let (rank, tag, comm) = all_three(state.value(rank), state.value(tag), state.value(comm))?;
     Ok(Envelope { rank, tag, comm })
 }

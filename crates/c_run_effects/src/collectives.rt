@@ -11,6 +11,7 @@ ghost use Rattle.c_run_effects.specs.inside.Faults.{HasFault};
 use crate::arguments::{buffers_of, ints_of, operands_of};
 use crate::checks::{count_of, enters, gets, same_count};
 use crate::comm::{Communicator, communicator_of, is_me};
+use crate::results::{all_three, both};
 use c_program::effect::{Collective, Effect, EnterInput, Into, Rank};
 use c_program::expr::TypedExpr;
 use c_program::mpi::{Buffer, CollectiveCall, Reduction};
@@ -112,11 +113,9 @@ fn bcast(
     requires { rank.ranks ≤ MOST_RANKS }
     ensures { result ≡ collective_effect rank (t.bcast (pure_buffer buffer.now) (pure_expr root.now) (pure_expr comm.now)) state.now }
 {
-    let ints = ints_of(buffer, state)?;
-    let root = state.value(root)?;
-    let comm = comm_of(rank, comm, state)?;
-    let count = count_of(ints.count)?;
-    let root = comm.member(root)?;
+    let ints = ints_of(buffer, state);
+    let (ints, root, comm) = all_three(ints, state.value(root), comm_of(rank, comm, state))?;
+    let (count, root) = both(count_of(ints.count), comm.member(root))?;
     let cells = ints.cells.first(count)?;
     let entered = if is_me(rank, root) {
         EnterInput::Cells(cells)
@@ -141,13 +140,13 @@ fn gather(
     requires { rank.ranks ≤ MOST_RANKS }
     ensures { result ≡ collective_effect rank (t.gather (pure_buffer out.now) (pure_buffer buffer.now) (pure_expr root.now) (pure_expr comm.now)) state.now }
 {
-    let buffers = buffers_of(out, buffer, state)?;
-    let root = state.value(root)?;
-    let comm = comm_of(rank, comm, state)?;
-    let count = count_for_both(comm.is_root(rank, root), buffers.out_count, buffers.count)?;
-    let root = comm.member(root)?;
-    let entered = enters(count as usize, buffers.out_cells)?;
-    let into = gets_at_root(is_me(rank, root), comm.pieces(count), buffers.cells)?;
+    let buffers = buffers_of(out, buffer, state);
+    let (buffers, root, comm) = all_three(buffers, state.value(root), comm_of(rank, comm, state))?;
+    let count = count_for_both(comm.is_root(rank, root), buffers.out_count, buffers.count);
+    let (count, root) = both(count, comm.member(root))?;
+    let entered = enters(count as usize, buffers.out_cells);
+    let into = gets_at_root(is_me(rank, root), comm.pieces(count), buffers.cells);
+    let (entered, into) = both(entered, into)?;
     Ok(Effect::Joins(Collective {
         root: Some(root),
         ..joined(&comm, Kind::Gather, count, entered, into)
@@ -166,13 +165,12 @@ fn scatter(
     requires { rank.ranks ≤ MOST_RANKS }
     ensures { result ≡ collective_effect rank (t.scatter (pure_buffer out.now) (pure_buffer buffer.now) (pure_expr root.now) (pure_expr comm.now)) state.now }
 {
-    let buffers = buffers_of(out, buffer, state)?;
-    let root = state.value(root)?;
-    let comm = comm_of(rank, comm, state)?;
-    let count = count_for_both(comm.is_root(rank, root), buffers.count, buffers.out_count)?;
-    let root = comm.member(root)?;
-    let entered = enters_at_root(is_me(rank, root), comm.pieces(count), buffers.out_cells)?;
-    let into = gets(count as usize, buffers.cells)?;
+    let buffers = buffers_of(out, buffer, state);
+    let (buffers, root, comm) = all_three(buffers, state.value(root), comm_of(rank, comm, state))?;
+    let count = count_for_both(comm.is_root(rank, root), buffers.count, buffers.out_count);
+    let (count, root) = both(count, comm.member(root))?;
+    let entered = enters_at_root(is_me(rank, root), comm.pieces(count), buffers.out_cells);
+    let (entered, into) = both(entered, gets(count as usize, buffers.cells))?;
     Ok(Effect::Joins(Collective {
         root: Some(root),
         ..joined(&comm, Kind::Scatter, count, entered, into)
@@ -190,11 +188,10 @@ fn allgather(
     requires { rank.ranks ≤ MOST_RANKS }
     ensures { result ≡ collective_effect rank (t.allgather (pure_buffer out.now) (pure_buffer buffer.now) (pure_expr comm.now)) state.now }
 {
-    let buffers = buffers_of(out, buffer, state)?;
-    let comm = comm_of(rank, comm, state)?;
+    let (buffers, comm) = both(buffers_of(out, buffer, state), comm_of(rank, comm, state))?;
     let count = count_for_both(true, buffers.out_count, buffers.count)?;
-    let entered = enters(count as usize, buffers.out_cells)?;
-    let into = gets(comm.pieces(count), buffers.cells)?;
+    let entered = enters(count as usize, buffers.out_cells);
+    let (entered, into) = both(entered, gets(comm.pieces(count), buffers.cells))?;
     Ok(Effect::Joins(joined(&comm, Kind::Allgather, count, entered, into)))
 }
 
@@ -209,11 +206,10 @@ fn alltoall(
     requires { rank.ranks ≤ MOST_RANKS }
     ensures { result ≡ collective_effect rank (t.alltoall (pure_buffer out.now) (pure_buffer buffer.now) (pure_expr comm.now)) state.now }
 {
-    let buffers = buffers_of(out, buffer, state)?;
-    let comm = comm_of(rank, comm, state)?;
+    let (buffers, comm) = both(buffers_of(out, buffer, state), comm_of(rank, comm, state))?;
     let count = count_for_both(true, buffers.out_count, buffers.count)?;
-    let entered = enters(comm.pieces(count), buffers.out_cells)?;
-    let into = gets(comm.pieces(count), buffers.cells)?;
+    let entered = enters(comm.pieces(count), buffers.out_cells);
+    let (entered, into) = both(entered, gets(comm.pieces(count), buffers.cells))?;
     Ok(Effect::Joins(joined(&comm, Kind::Alltoall, count, entered, into)))
 }
 
@@ -228,13 +224,16 @@ fn reduce(
     requires { rank.ranks ≤ MOST_RANKS }
     ensures { result ≡ collective_effect rank (t.reduce (pure_reduction reduction.now) (pure_expr root.now) (pure_expr comm.now)) state.now }
 {
-    let operands = operands_of(reduction, state)?;
-    let root = state.value(root)?;
-    let comm = comm_of(rank, comm, state)?;
-    let count = count_of(operands.count)?;
-    let root = comm.member(root)?;
-    let entered = enters(count as usize, operands.send)?;
-    let into = gets_at_root(is_me(rank, root), count as usize, operands.receive)?;
+    let operands = operands_of(reduction, state);
+    let (operands, root, comm) = all_three(
+        operands,
+        state.value(root),
+        comm_of(rank, comm, state),
+    )?;
+    let (count, root) = both(count_of(operands.count), comm.member(root))?;
+    let entered = enters(count as usize, operands.send);
+    let into = gets_at_root(is_me(rank, root), count as usize, operands.receive);
+    let (entered, into) = both(entered, into)?;
     Ok(Effect::Joins(Collective {
         root: Some(root),
         op: Some(reduction.op),
@@ -253,11 +252,10 @@ fn reduces_for_all(
     requires { rank.ranks ≤ MOST_RANKS }
     ensures { result ≡ reduces_for_all rank kind (pure_reduction reduction.now) (pure_expr comm.now) state.now }
 {
-    let operands = operands_of(reduction, state)?;
-    let comm = comm_of(rank, comm, state)?;
+    let (operands, comm) = both(operands_of(reduction, state), comm_of(rank, comm, state))?;
     let count = count_of(operands.count)?;
-    let entered = enters(count as usize, operands.send)?;
-    let into = gets(count as usize, operands.receive)?;
+    let entered = enters(count as usize, operands.send);
+    let (entered, into) = both(entered, gets(count as usize, operands.receive))?;
     Ok(Effect::Joins(Collective {
         op: Some(reduction.op),
         ..joined(&comm, kind, count, entered, into)

@@ -8,6 +8,7 @@ ghost use Rattle.c_program.specs.View.{pure_communicator, pure_expr, pure_refere
 use crate::checks::{cell, colour};
 use crate::collectives::joined;
 use crate::comm::communicator_of;
+use crate::results::{all_three, both};
 use c_program::constants::NULL;
 use c_program::effect::{Effect, EnterInput, Into, Rank};
 use c_program::expr::{Reference, TypedExpr};
@@ -26,10 +27,8 @@ fn comm_size(
     requires { rank.ranks ≤ MOST_RANKS }
     ensures { result ≡ communicator_effect rank (t.comm_size (pure_expr comm.now) (pure_reference into.now)) state.now }
 {
-    let comm = state.value(comm)?;
-    let into = state.range(into)?;
-    let comm = communicator_of(rank, state, comm)?;
-    let into = cell(into)?;
+    let (comm, into) = both(state.value(comm), state.range(into))?;
+    let (comm, into) = both(communicator_of(rank, state, comm), cell(into))?;
     Ok(Effect::Sets {
         cell: into,
         value: comm.size(),
@@ -46,10 +45,8 @@ fn comm_rank(
     requires { rank.ranks ≤ MOST_RANKS }
     ensures { result ≡ communicator_effect rank (t.comm_rank (pure_expr comm.now) (pure_reference into.now)) state.now }
 {
-    let comm = state.value(comm)?;
-    let into = state.range(into)?;
-    let comm = communicator_of(rank, state, comm)?;
-    let into = cell(into)?;
+    let (comm, into) = both(state.value(comm), state.range(into))?;
+    let (comm, into) = both(communicator_of(rank, state, comm), cell(into))?;
     Ok(Effect::Sets {
         cell: into,
         value: comm.rank_of(rank.number),
@@ -66,10 +63,8 @@ fn comm_dup(
     requires { rank.ranks ≤ MOST_RANKS }
     ensures { result ≡ communicator_effect rank (t.comm_dup (pure_expr comm.now) (pure_reference into.now)) state.now }
 {
-    let comm = state.value(comm)?;
-    let into = state.range(into)?;
-    let comm = communicator_of(rank, state, comm)?;
-    let into = cell(into)?;
+    let (comm, into) = both(state.value(comm), state.range(into))?;
+    let (comm, into) = both(communicator_of(rank, state, comm), cell(into))?;
     Ok(Effect::Joins(joined(&comm, Kind::Dup, 0, EnterInput::Nothing, Into::Handle(into))))
 }
 
@@ -85,13 +80,17 @@ fn comm_split(
     requires { rank.ranks ≤ MOST_RANKS }
     ensures { result ≡ communicator_effect rank (t.comm_split (pure_expr comm.now) (pure_expr color.now) (pure_expr key.now) (pure_reference into.now)) state.now }
 {
-    let comm = state.value(comm)?;
-    let color = state.value(color)?;
-    let key = state.value(key)?;
-    let into = state.range(into)?;
-    let comm = communicator_of(rank, state, comm)?;
-    let color = colour(color)?;
-    let into = cell(into)?;
+    let comm_and_color = both(state.value(comm), state.value(color));
+    let ((comm, color), key, into) = all_three(
+        comm_and_color,
+        state.value(key),
+        state.range(into),
+    )?;
+    let (comm, color, into) = all_three(
+        communicator_of(rank, state, comm),
+        colour(color),
+        cell(into),
+    )?;
     Ok(Effect::Joins(joined(
         &comm,
         Kind::Split,

@@ -5,6 +5,7 @@ ghost use Rattle.c_program.specs.Effects.{answers, completes_some, completion_ef
 ghost use Rattle.c_program.specs.View.{pure_completion, pure_expr, pure_reference, pure_several};
 
 use crate::checks::{cell, handles_of, optional_first, status};
+use crate::results::{all_three, both};
 use c_program::effect::{AnswerCells, Effect};
 use c_program::expr::{Reference, TypedExpr};
 use c_program::mpi::{CompletionCall, SomeRequests};
@@ -29,10 +30,8 @@ fn answers(statuses: Option<Range>) -> AnswerCells
 fn wait(requests: &Reference, kept: &Option<Reference>, state: &RankState) -> Result<Effect, Fault>
     ensures { result ≡ completion_effect (t.wait (pure_reference requests.now) (option_map pure_reference kept.now)) state.now }
 {
-    let requests = state.range(requests)?;
-    let kept = status(kept, state)?;
-    let requests = requests.first(1)?;
-    let statuses = optional_first(1, kept)?;
+    let (requests, kept) = both(state.range(requests), status(kept, state))?;
+    let (requests, statuses) = both(requests.first(1), optional_first(1, kept))?;
     Ok(Effect::Completes {
         requests,
         mode: TakeMode::All,
@@ -49,12 +48,16 @@ fn test(
 ) -> Result<Effect, Fault>
     ensures { result ≡ completion_effect (t.test (pure_reference requests.now) (pure_reference flag.now) (option_map pure_reference kept.now)) state.now }
 {
-    let requests = state.range(requests)?;
-    let flag = state.range(flag)?;
-    let kept = status(kept, state)?;
-    let requests = requests.first(1)?;
-    let flag = cell(flag)?;
-    let statuses = optional_first(1, kept)?;
+    let (requests, flag, kept) = all_three(
+        state.range(requests),
+        state.range(flag),
+        status(kept, state),
+    )?;
+    let (requests, flag, statuses) = all_three(
+        requests.first(1),
+        cell(flag),
+        optional_first(1, kept),
+    )?;
     Ok(Effect::Completes {
         requests,
         mode: TakeMode::TestAll,
@@ -75,14 +78,18 @@ fn waitany(
 ) -> Result<Effect, Fault>
     ensures { result ≡ completion_effect (t.waitany (pure_expr count.now) (pure_reference requests.now) (pure_reference index.now) (option_map pure_reference kept.now)) state.now }
 {
-    let count = state.value(count)?;
-    let requests = state.range(requests)?;
-    let index = state.range(index)?;
-    let kept = status(kept, state)?;
+    let handles = both(state.value(count), state.range(requests));
+    let ((count, requests), index, kept) = all_three(
+        handles,
+        state.range(index),
+        status(kept, state),
+    )?;
     let count = handles_of(count)?;
-    let requests = requests.first(count)?;
-    let index = cell(index)?;
-    let statuses = optional_first(1, kept)?;
+    let (requests, index, statuses) = all_three(
+        requests.first(count),
+        cell(index),
+        optional_first(1, kept),
+    )?;
     Ok(Effect::Completes {
         requests,
         mode: TakeMode::Any,
@@ -104,16 +111,16 @@ fn testany(
 ) -> Result<Effect, Fault>
     ensures { result ≡ completion_effect (t.testany (pure_expr count.now) (pure_reference requests.now) (pure_reference index.now) (pure_reference flag.now) (option_map pure_reference kept.now)) state.now }
 {
-    let count = state.value(count)?;
-    let requests = state.range(requests)?;
-    let index = state.range(index)?;
-    let flag = state.range(flag)?;
-    let kept = status(kept, state)?;
+    let handles = both(state.value(count), state.range(requests));
+    let cells = both(state.range(index), state.range(flag));
+    let ((count, requests), (index, flag), kept) = all_three(handles, cells, status(kept, state))?;
     let count = handles_of(count)?;
-    let requests = requests.first(count)?;
-    let index = cell(index)?;
-    let flag = cell(flag)?;
-    let statuses = optional_first(1, kept)?;
+    let cells = both(cell(index), cell(flag));
+    let (requests, (index, flag), statuses) = all_three(
+        requests.first(count),
+        cells,
+        optional_first(1, kept),
+    )?;
     Ok(Effect::Completes {
         requests,
         mode: TakeMode::TestAny,
@@ -134,12 +141,13 @@ fn waitall(
 ) -> Result<Effect, Fault>
     ensures { result ≡ completion_effect (t.waitall (pure_expr count.now) (pure_reference requests.now) (option_map pure_reference kept.now)) state.now }
 {
-    let count = state.value(count)?;
-    let requests = state.range(requests)?;
-    let kept = status(kept, state)?;
+    let (count, requests, kept) = all_three(
+        state.value(count),
+        state.range(requests),
+        status(kept, state),
+    )?;
     let count = handles_of(count)?;
-    let requests = requests.first(count)?;
-    let statuses = optional_first(count, kept)?;
+    let (requests, statuses) = both(requests.first(count), optional_first(count, kept))?;
     Ok(Effect::Completes {
         requests,
         mode: TakeMode::All,
@@ -157,14 +165,18 @@ fn testall(
 ) -> Result<Effect, Fault>
     ensures { result ≡ completion_effect (t.testall (pure_expr count.now) (pure_reference requests.now) (pure_reference flag.now) (option_map pure_reference kept.now)) state.now }
 {
-    let count = state.value(count)?;
-    let requests = state.range(requests)?;
-    let flag = state.range(flag)?;
-    let kept = status(kept, state)?;
+    let handles = both(state.value(count), state.range(requests));
+    let ((count, requests), flag, kept) = all_three(
+        handles,
+        state.range(flag),
+        status(kept, state),
+    )?;
     let count = handles_of(count)?;
-    let requests = requests.first(count)?;
-    let flag = cell(flag)?;
-    let statuses = optional_first(count, kept)?;
+    let (requests, flag, statuses) = all_three(
+        requests.first(count),
+        cell(flag),
+        optional_first(count, kept),
+    )?;
     Ok(Effect::Completes {
         requests,
         mode: TakeMode::TestAll,
@@ -183,16 +195,23 @@ fn completes_some(
 ) -> Result<Effect, Fault>
     ensures { result ≡ completes_some mode (pure_several several.now) state.now }
 {
-    let count = state.value(&several.count)?;
-    let requests = state.range(&several.requests)?;
-    let outcount = state.range(&several.outcount)?;
-    let indices = state.range(&several.indices)?;
-    let kept = status(&several.statuses, state)?;
+    let handles = both(state.value(&several.count), state.range(&several.requests));
+    let cells = both(
+        state.range(&several.outcount),
+        state.range(&several.indices),
+    );
+    let ((count, requests), (outcount, indices), kept) = all_three(
+        handles,
+        cells,
+        status(&several.statuses, state),
+    )?;
     let count = handles_of(count)?;
-    let requests = requests.first(count)?;
-    let outcount = cell(outcount)?;
-    let indices = indices.first(count)?;
-    let statuses = optional_first(count, kept)?;
+    let cells = both(cell(outcount), indices.first(count));
+    let (requests, (outcount, indices), statuses) = all_three(
+        requests.first(count),
+        cells,
+        optional_first(count, kept),
+    )?;
     Ok(Effect::Completes {
         requests,
         mode,

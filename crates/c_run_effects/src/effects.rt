@@ -10,6 +10,7 @@ use crate::communicators::communicator_effect;
 use crate::completions::completion_effect;
 use crate::messages::message_effect;
 use crate::probes::probe_effect;
+use crate::results::both;
 use c_program::effect::{Effect, Rank};
 use c_program::expr::TypedExpr;
 use c_program::mpi::MpiCall;
@@ -22,8 +23,7 @@ fn abort(rank: Rank, comm: &TypedExpr, code: &TypedExpr, state: &RankState) -> R
     requires { rank.ranks ≤ MOST_RANKS }
     ensures { result ≡ effect_of rank (t.abort (pure_expr comm.now) (pure_expr code.now)) state.now }
 {
-    let comm = state.value(comm)?;
-    let code = state.value(code)?;
+    let (comm, code) = both(state.value(comm), state.value(code))?;
     communicator_of(rank, state, comm)?;
     Ok(Effect::Aborts(code))
 }

@@ -10,3 +10,4 @@ mod completions;
 pub mod effects;
 mod messages;
 mod probes;
+mod results;

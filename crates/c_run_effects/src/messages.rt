@@ -7,6 +7,7 @@ ghost use Rattle.c_program.specs.View.{pure_expr, pure_incoming, pure_message, p
 use crate::arguments::{envelope_of, ints_of};
 use crate::checks::{cell, count_of, optional_cell, status, tag_of, wanted_tag};
 use crate::comm::{Communicator, communicator_of};
+use crate::results::{all_three, both};
 use c_program::effect::{Effect, Message, Rank, Receive, Start};
 use c_program::expr::{Reference, TypedExpr};
 use c_program::mpi::{Incoming, MessageCall, Outgoing};
@@ -93,12 +94,13 @@ fn send(
     requires { rank.ranks ≤ MOST_RANKS }
     ensures { result ≡ send_effect rank (pure_outgoing outgoing.now) (pure_expr comm.now) sync state.now }
 {
-    let ints = ints_of(&outgoing.buffer, state)?;
-    let envelope = envelope_of(&outgoing.dest, &outgoing.tag, comm, state)?;
+    let ints = ints_of(&outgoing.buffer, state);
+    let envelope = envelope_of(&outgoing.dest, &outgoing.tag, comm, state);
+    let (ints, envelope) = both(ints, envelope)?;
     let comm = communicator_of(rank, state, envelope.comm)?;
-    let count = count_of(ints.count)?;
-    let dest = comm.destination(envelope.rank)?;
-    let tag = tag_of(envelope.tag)?;
+    let count = count_of(ints.count);
+    let dest = comm.destination(envelope.rank);
+    let (count, dest, tag) = all_three(count, dest, tag_of(envelope.tag))?;
     let cells = ints.cells.first(count)?;
     Ok(sends(&comm, dest, tag, cells, sync))
 }
@@ -114,15 +116,14 @@ fn recv(
     requires { rank.ranks ≤ MOST_RANKS }
     ensures { result ≡ message_effect rank (t.recv (pure_incoming incoming.now) (pure_expr comm.now) (option_map pure_reference kept.now)) state.now }
 {
-    let ints = ints_of(&incoming.buffer, state)?;
-    let envelope = envelope_of(&incoming.source, &incoming.tag, comm, state)?;
-    let kept = status(kept, state)?;
+    let ints = ints_of(&incoming.buffer, state);
+    let envelope = envelope_of(&incoming.source, &incoming.tag, comm, state);
+    let (ints, envelope, kept) = all_three(ints, envelope, status(kept, state))?;
     let comm = communicator_of(rank, state, envelope.comm)?;
-    let count = count_of(ints.count)?;
-    let source = comm.source(envelope.rank)?;
-    let tag = wanted_tag(envelope.tag)?;
-    let cells = ints.cells.first(count)?;
-    let kept = optional_cell(kept)?;
+    let count = count_of(ints.count);
+    let source = comm.source(envelope.rank);
+    let (count, source, tag) = all_three(count, source, wanted_tag(envelope.tag))?;
+    let (cells, kept) = both(ints.cells.first(count), optional_cell(kept))?;
     Ok(Effect::Receives {
         receive: receive(&comm, source, tag, cells),
         send: None,
@@ -142,15 +143,14 @@ fn isend(
     requires { rank.ranks ≤ MOST_RANKS }
     ensures { result ≡ isend_effect rank (pure_outgoing outgoing.now) (pure_expr comm.now) (pure_reference request.now) sync state.now }
 {
-    let ints = ints_of(&outgoing.buffer, state)?;
-    let envelope = envelope_of(&outgoing.dest, &outgoing.tag, comm, state)?;
-    let request = state.range(request)?;
+    let ints = ints_of(&outgoing.buffer, state);
+    let envelope = envelope_of(&outgoing.dest, &outgoing.tag, comm, state);
+    let (ints, envelope, request) = all_three(ints, envelope, state.range(request))?;
     let comm = communicator_of(rank, state, envelope.comm)?;
-    let count = count_of(ints.count)?;
-    let dest = comm.destination(envelope.rank)?;
-    let tag = tag_of(envelope.tag)?;
-    let cells = ints.cells.first(count)?;
-    let request = cell(request)?;
+    let count = count_of(ints.count);
+    let dest = comm.destination(envelope.rank);
+    let (count, dest, tag) = all_three(count, dest, tag_of(envelope.tag))?;
+    let (cells, request) = both(ints.cells.first(count), cell(request))?;
     Ok(sends_from(&comm, dest, tag, cells, sync, request))
 }
 
@@ -165,15 +165,14 @@ fn irecv(
     requires { rank.ranks ≤ MOST_RANKS }
     ensures { result ≡ message_effect rank (t.irecv (pure_incoming incoming.now) (pure_expr comm.now) (pure_reference request.now)) state.now }
 {
-    let ints = ints_of(&incoming.buffer, state)?;
-    let envelope = envelope_of(&incoming.source, &incoming.tag, comm, state)?;
-    let request = state.range(request)?;
+    let ints = ints_of(&incoming.buffer, state);
+    let envelope = envelope_of(&incoming.source, &incoming.tag, comm, state);
+    let (ints, envelope, request) = all_three(ints, envelope, state.range(request))?;
     let comm = communicator_of(rank, state, envelope.comm)?;
-    let count = count_of(ints.count)?;
-    let source = comm.source(envelope.rank)?;
-    let tag = wanted_tag(envelope.tag)?;
-    let cells = ints.cells.first(count)?;
-    let request = cell(request)?;
+    let count = count_of(ints.count);
+    let source = comm.source(envelope.rank);
+    let (count, source, tag) = all_three(count, source, wanted_tag(envelope.tag))?;
+    let (cells, request) = both(ints.cells.first(count), cell(request))?;
     Ok(Effect::Starts {
         start: Start::Receive(receive(&comm, source, tag, cells)),
         request: Some(request),
@@ -192,22 +191,23 @@ fn sendrecv(
     requires { rank.ranks ≤ MOST_RANKS }
     ensures { result ≡ message_effect rank (t.sendrecv (pure_outgoing outgoing.now) (pure_incoming incoming.now) (pure_expr comm.now) (option_map pure_reference kept.now)) state.now }
 {
-    let out = ints_of(&outgoing.buffer, state)?;
-    let dest = state.value(&outgoing.dest)?;
-    let send_tag = state.value(&outgoing.tag)?;
-    let ints = ints_of(&incoming.buffer, state)?;
-    let envelope = envelope_of(&incoming.source, &incoming.tag, comm, state)?;
-    let kept = status(kept, state)?;
+    let out = ints_of(&outgoing.buffer, state);
+    let dest = state.value(&outgoing.dest);
+    let (out, dest, send_tag) = all_three(out, dest, state.value(&outgoing.tag))?;
+    let ints = ints_of(&incoming.buffer, state);
+    let envelope = envelope_of(&incoming.source, &incoming.tag, comm, state);
+    let (ints, envelope, kept) = all_three(ints, envelope, status(kept, state))?;
     let comm = communicator_of(rank, state, envelope.comm)?;
-    let out_count = count_of(out.count)?;
-    let count = count_of(ints.count)?;
-    let dest = comm.destination(dest)?;
-    let source = comm.source(envelope.rank)?;
-    let send_tag = tag_of(send_tag)?;
-    let tag = wanted_tag(envelope.tag)?;
-    let out_cells = out.cells.first(out_count)?;
-    let cells = ints.cells.first(count)?;
-    let kept = optional_cell(kept)?;
+    let counts = both(count_of(out.count), count_of(ints.count));
+    let ranks = both(comm.destination(dest), comm.source(envelope.rank));
+    let tags = both(tag_of(send_tag), wanted_tag(envelope.tag));
+    let ((out_count, count), (dest, source), (send_tag, tag)) = all_three(counts, ranks, tags)?;
+    let out_cells = out.cells.first(out_count);
+    let (out_cells, cells, kept) = all_three(
+        out_cells,
+        ints.cells.first(count),
+        optional_cell(kept),
+    )?;
     Ok(Effect::Receives {
         receive: receive(&comm, source, tag, cells),
         send: send_after(&comm, dest, send_tag, out_cells),

@@ -8,6 +8,7 @@ ghost use Rattle.c_program.specs.View.{pure_expr, pure_probe, pure_reference};
 use crate::arguments::envelope_of;
 use crate::checks::{cell, count_in, optional_cell, status, wanted_tag};
 use crate::comm::communicator_of;
+use crate::results::{all_three, both};
 use c_program::effect::{Effect, Rank};
 use c_program::expr::{Reference, TypedExpr};
 use c_program::mpi::ProbeCall;
@@ -33,12 +34,11 @@ fn probe(
     requires { rank.ranks ≤ MOST_RANKS }
     ensures { result ≡ probe_effect rank (t.probe (pure_expr wanted.now.source.now) (pure_expr wanted.now.tag.now) (pure_expr wanted.now.comm.now) (option_map pure_reference kept.now)) state.now }
 {
-    let envelope = envelope_of(wanted.source, wanted.tag, wanted.comm, state)?;
-    let kept = status(kept, state)?;
+    let envelope = envelope_of(wanted.source, wanted.tag, wanted.comm, state);
+    let (envelope, kept) = both(envelope, status(kept, state))?;
     let comm = communicator_of(rank, state, envelope.comm)?;
-    let source = comm.source(envelope.rank)?;
-    let tag = wanted_tag(envelope.tag)?;
-    let kept = optional_cell(kept)?;
+    let source = comm.source(envelope.rank);
+    let (source, tag, kept) = all_three(source, wanted_tag(envelope.tag), optional_cell(kept))?;
     Ok(Effect::Probes {
         comm: comm.number(),
         source,
@@ -60,14 +60,12 @@ fn iprobe(
     requires { rank.ranks ≤ MOST_RANKS }
     ensures { result ≡ probe_effect rank (t.iprobe (pure_expr wanted.now.source.now) (pure_expr wanted.now.tag.now) (pure_expr wanted.now.comm.now) (pure_reference flag.now) (option_map pure_reference kept.now)) state.now }
 {
-    let envelope = envelope_of(wanted.source, wanted.tag, wanted.comm, state)?;
-    let flag = state.range(flag)?;
-    let kept = status(kept, state)?;
+    let envelope = envelope_of(wanted.source, wanted.tag, wanted.comm, state);
+    let (envelope, flag, kept) = all_three(envelope, state.range(flag), status(kept, state))?;
     let comm = communicator_of(rank, state, envelope.comm)?;
-    let source = comm.source(envelope.rank)?;
-    let tag = wanted_tag(envelope.tag)?;
-    let flag = cell(flag)?;
-    let kept = optional_cell(kept)?;
+    let source = comm.source(envelope.rank);
+    let cells = both(cell(flag), optional_cell(kept));
+    let (source, tag, (flag, kept)) = all_three(source, wanted_tag(envelope.tag), cells)?;
     Ok(Effect::Probes {
         comm: comm.number(),
         source,
@@ -82,10 +80,8 @@ fn iprobe(
 fn get_count(kept: &Option<Reference>, into: &Reference, state: &RankState) -> Result<Effect, Fault>
     ensures { (rank : effect.Rank) → result ≡ probe_effect rank (t.get_count (option_map pure_reference kept.now) (pure_reference into.now)) state.now }
 {
-    let kept = status(kept, state)?;
-    let into = state.range(into)?;
-    let kept = optional_cell(kept)?;
-    let into = cell(into)?;
+    let (kept, into) = both(status(kept, state), state.range(into))?;
+    let (kept, into) = both(optional_cell(kept), cell(into))?;
     Ok(Effect::Sets {
         cell: into,
         value: count_in(kept, state),
