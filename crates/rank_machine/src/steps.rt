@@ -1,7 +1,8 @@
 //! Statements: what each does at once, and what it opens.
-ghost use Rattle.std.specs.Prelude.{◌≡◌, ◌≢◌, ◌≤◌, ◌<◌, ◌+◌, ◌*◌, OnOk, IfOk, map, option_copied, option_map};
-ghost use Rattle.c_program.specs.Meaning.{act, act_part, declare_variable, declare_all, for_update, loop_after, return, simple, started, test, trying};
-ghost use Rattle.c_program.specs.View.{pure_call, pure_expr, pure_initial, pure_item, pure_part, pure_right, pure_simple, pure_start, pure_stmt};
+ghost use Rattle.std.specs.Prelude.{◌≡◌, ◌≢◌, ◌≤◌, ◌<◌, ◌+◌, ◌*◌, OnOk, IfOk, Some, map, option_copied, option_map};
+ghost use Rattle.c_program.specs.Meaning.{act, act_part, act_parts, declare_variable, declare_all, for_update, leaving, loop, loop_after, no_update, return, simple, started, test, trying};
+ghost use Rattle.c_program.specs.State.{stack_mark};
+ghost use Rattle.c_program.specs.View.{pure_call, pure_expr, pure_initial, pure_item, pure_part, pure_parts, pure_right, pure_simple, pure_start, pure_stmt};
 ghost use Rattle.c_run_replies.specs.declared.question.Reached.TheVariants.{Done};
 ghost use Rattle.c_run_cells.specs.Comes.{ComesOut};
 ghost use Rattle.rank_machine.specs.Frames.{CountsOpenCalls, HasComeTo, begun_value, initial_call, calls_in, if_statement, for_statement, looping, turns_at, weight, within};
@@ -169,6 +170,38 @@ impl<'p> Stack<'p> {
         }
     }
 
+    /// A block.
+    fn run_block(&mut self, code: &Code<'p>, parts: &'p [TypedPart]) -> Result<Reached, Fail>
+        requires { CountsOpenCalls code.now self.old }
+        ensures stands { HasComeTo (act_parts code.now.rank (calls_in code.now self.old.opens) (pure_parts parts.now) self.old.state (leaving (stack_mark self.old.state) (within code.now self.old.frames.items).exits)) code.now result self.new }
+        ensures fewer { OnOk result (weight self.new ≤ weight self.old + 2) }
+    {
+        self.frames
+            .push(ContinuationFrame::Block(self.state.mark()))?;
+        self.frames.push(ContinuationFrame::Rest(parts))?;
+        Ok(Reached::Done)
+    }
+
+    /// A loop with a test before each turn.
+    fn run_while(
+        &mut self,
+        code: &Code<'p>,
+        test: &'p TypedExpr,
+        body: &'p TypedStmt,
+    ) -> Result<Reached, Fail>
+        requires { CountsOpenCalls code.now self.old }
+        ensures stands { HasComeTo (loop (Some (pure_expr test.now)) no_update (started (act code.now.rank (calls_in code.now self.old.opens) (pure_stmt body.now))) self.old.state (within code.now self.old.frames.items).exits) code.now result self.new }
+        ensures fewer { OnOk result (weight self.new ≤ weight self.old + 1) }
+    {
+        self.frames.push(ContinuationFrame::Repeat(Loop {
+            test: Some(test),
+            update: None,
+            body,
+            turns: None,
+        }))?;
+        Ok(Reached::Done)
+    }
+
     /// A loop with a turn before its first test.
     fn run_do(
         &mut self,
@@ -201,12 +234,7 @@ impl<'p> Stack<'p> {
         ensures fewer { OnOk result (weight self.new ≤ weight self.old + 2) }
     {
         match stmt {
-            TypedStmt::Block(parts) => {
-                self.frames
-                    .push(ContinuationFrame::Block(self.state.mark()))?;
-                self.frames.push(ContinuationFrame::Rest(parts))?;
-                Ok(Reached::Done)
-            }
+            TypedStmt::Block(parts) => self.run_block(code, parts),
             TypedStmt::Empty => Ok(Reached::Done),
             TypedStmt::Simple(one) => self.simple(code, one),
             TypedStmt::Break => self.break_out(code),
@@ -214,15 +242,7 @@ impl<'p> Stack<'p> {
             TypedStmt::Return(value) => self.run_return(code, value),
             TypedStmt::If { test, then } => self.run_if(code, test, then, None),
             TypedStmt::IfElse { test, then, other } => self.run_if(code, test, then, Some(other)),
-            TypedStmt::While { test, body } => {
-                self.frames.push(ContinuationFrame::Repeat(Loop {
-                    test: Some(test),
-                    update: None,
-                    body,
-                    turns: None,
-                }))?;
-                Ok(Reached::Done)
-            }
+            TypedStmt::While { test, body } => self.run_while(code, test, body),
             TypedStmt::Do { body, test } => self.run_do(code, test, body),
             TypedStmt::For {
                 start,
