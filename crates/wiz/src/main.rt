@@ -5,9 +5,6 @@
 //! search it shows how far it is.
 #![tactic(auto)]
 
-use c_lex::Why;
-use c_lex::limits::MOST_BYTES;
-use c_types::read_program;
 use explore::watch::{Progress, Watcher};
 use explore_text::text::progress_text;
 use rank_threads::OpenGate;
@@ -22,7 +19,7 @@ use std::{env, io};
 use wiz_cli::top::wiz;
 use wiz_io::{HostSink, HostStore};
 use wiz_tool::status::Status;
-use wiz_usage::{WatchedStore, marked_line, usage};
+use wiz_usage::{WatchedStore, fault_line, usage};
 use wiz_words::command::Command;
 use wiz_words::read::read_command;
 
@@ -132,16 +129,9 @@ fn show_usage<E: Print>(errors: &E, words: &[&str]) {
     }
 }
 
-/// Shows the line of a program's first fault, if there is memory for it.
+/// Shows the line of a program's first fault. What cannot be made or shown is left out.
 fn show_fault<E: Print>(alloc: Global, errors: &E, text: &[u8]) {
-    if text.len() > MOST_BYTES {
-        return;
-    }
-    if let Err(fault) = read_program(alloc, text) {
-        if fault.why != Why::NoMemory {
-            if let Ok(Some(line)) = marked_line(alloc, text, fault.line, fault.column) {
-                let _ = io::writer(errors).write_all(line.as_slice());
-            }
-        }
+    if let Some(line) = fault_line(alloc, text) {
+        let _ = io::writer(errors).write_all(line.as_slice());
     }
 }
