@@ -11,8 +11,8 @@ use c_types::read_program;
 use std::alloc::Global;
 use wiz_base::Bytes;
 
-/// The line of a program's first fault, with a caret under the column of the fault. Nothing where the text is no text that is read or is a
-/// program, and where memory is out.
+/// The line of a program's first fault, with a caret under the column of the fault. Nothing where the text has more than `MOST_BYTES`
+/// bytes, where it is a program, and where memory is out; no clause says when there is nothing.
 pub fn fault_line(alloc: Global, text: &[u8]) -> Option<Bytes>
     ensures { MatchOption result ⊤ (λ shown. (fault : SourceFault) × IsFaultOf text.now fault × IsMarked text.now fault.line fault.column shown) }
 {
