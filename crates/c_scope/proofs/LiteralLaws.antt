@@ -5,6 +5,7 @@ use Rattle.std.proofs.lemmas.Bool.{and_parts, and_from}
 use Rattle.std.specs.Char.{digit_value}
 use Rattle.std.specs.Str.Parse.{AllDigits}
 use Rattle.c_lex.specs.Literals.{IsLiteral, base, digits_of, literal_value}
+use Rattle.c_lex.specs.declared.limits.TheConstants.{GREATEST_LITERAL}
 use Rattle.c_scope.specs.Literals.{all_digits, is_literal}
 
 tells_digits : (radix : ℕ) (cs : List ℕ) → all_digits radix cs ≡ true → AllDigits radix cs
@@ -19,13 +20,13 @@ tells : (word : List ℕ) → is_literal word ≡ true → IsLiteral word
 tells word e =
     let p = and_parts _ _ e in let q = and_parts _ _ p.0 in
     let some : nat_lt 0 (length (digits_of word)) ≡ true = q.0 in
-    let small : nat_le (literal_value word) 2147483647 ≡ true = p.1 in
+    let small : nat_le (literal_value word) GREATEST_LITERAL ≡ true = p.1 in
     ((grind (arith, nat_tests), tells_digits (base word) (digits_of word) q.1), grind (arith, nat_tests))
 
 told : (word : List ℕ) → IsLiteral word → is_literal word ≡ true
 told word h =
     let some : 0 < length (digits_of word) = h.0.0 in
-    let small : literal_value word ≤ 2147483647 = h.1 in
+    let small : literal_value word ≤ GREATEST_LITERAL = h.1 in
     and_from _ _ (and_from _ _ (grind (arith, nat_tests)) (told_digits (base word) (digits_of word) h.0.1)) (grind (arith, nat_tests))
 
 cases : (b : Bool) → (b ≡ true) ⊎ (b ≡ false)

@@ -2,6 +2,7 @@
 use Rattle.std.specs.Prelude.{ℕ, ◌&&◌, Bool, true, List, [], ◌∷◌, length, if◌then◌else◌, nat_lt, nat_le}
 use Rattle.std.specs.Char.{digit_value}
 use Rattle.c_lex.specs.Literals.{base, digits_of, literal_value}
+use Rattle.c_lex.specs.declared.limits.TheConstants.{GREATEST_LITERAL}
 use Rattle.c_grammar.specs.declared.terminal.Span.{Span}
 use Rattle.c_scope.specs.Scopes.{token_bytes}
 
@@ -10,7 +11,7 @@ all_digits radix [] = true
 all_digits radix (c ∷ cs) = nat_lt (digit_value c) radix && all_digits radix cs
 
 abbrev pub is_literal : List ℕ → Bool
-is_literal word = (nat_lt 0 (length (digits_of word)) && all_digits (base word) (digits_of word)) && nat_le (literal_value word) 2147483647
+is_literal word = (nat_lt 0 (length (digits_of word)) && all_digits (base word) (digits_of word)) && nat_le (literal_value word) GREATEST_LITERAL
 
 -- the number of a token; 0 for what is no literal, as no token is
 abbrev pub literal_at : List ℕ → Span → ℕ

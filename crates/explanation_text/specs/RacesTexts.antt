@@ -3,8 +3,8 @@ use Rattle.std.specs.Prelude.{ℕ, List, [], ◌∷◌, ◌++◌, codes, flat_ma
 use Rattle.msg_races.specs.declared.names.Name.{Name}
 use Rattle.msg_races.specs.declared.receives.WildcardReceive.{WildcardReceive}
 use Rattle.run_model.specs.declared.ending.Ending.{Ending}
-use Rattle.srr_log.specs.EntryText.{name_text}
 use Rattle.run_text.specs.RecordTexts.{ending_text}
+use Rattle.srr_log.specs.EntryText.{name_text}
 use Rattle.wiz_base.specs.Decimals.{decimal_text}
 
 -- S.K S.K .., a blank before each

@@ -13,9 +13,9 @@ use Rattle.run_model.specs.Allowed.{Probe, probe_of}
 use Rattle.run_model.specs.Lists.{world}
 use Rattle.run_model.specs.Views.{View, view_of}
 use Rattle.run_text.specs.CallTexts.{call_text}
-use Rattle.srr_log.specs.EntryText.{name_text}
 use Rattle.run_text.specs.GroupTexts.{spaced_ranks_text}
 use Rattle.run_text.specs.RecordTexts.{ending_text}
+use Rattle.srr_log.specs.EntryText.{name_text}
 use Rattle.wait_graph.specs.declared.difference.Difference.{Difference}
 use Rattle.wait_graph.specs.declared.difference.Difference.TheVariants.{Comm, Source as BySource, Tag as ByTag}
 use Rattle.wait_graph.specs.declared.graph.Blocked.{Blocked}

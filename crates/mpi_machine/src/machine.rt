@@ -21,7 +21,7 @@ ghost use Rattle.picked_runs.specs.Turns.{take_turn};
 ghost use Rattle.match_core.specs.Starts.{is_peek, is_post};
 ghost use Rattle.picked_runs.specs.Picks.{has_pick, looks};
 ghost use Rattle.run_model.specs.Choice.{choice};
-ghost use Rattle.mpi_machine.specs.Made.{noted, AreNeeded, IsPlain};
+ghost use Rattle.mpi_machine.specs.Made.{AreNeeded, IsPlain};
 ghost use Rattle.mpi_machine.specs.Picking.{after_pick, picked_of, HasPicked, IsWritten};
 ghost use Rattle.run_model.specs.Views.{is_start, moment_at, replies_in, taken_of, view_of};
 ghost use Rattle.requests.specs.Histories.{took_event, KnowsHistory};
@@ -35,6 +35,7 @@ ghost use Rattle.mpi_machine.specs.Waits.{waits, AreWaitingCalls};
 
 use crate::answer::Answer;
 use crate::course::Course;
+use crate::preparing::{note, prepare, prepare_pick, prepare_reply};
 use crate::waits::{is_there, none_before};
 use mpi_call::call::{Call, Comm, Halt, Source, Tag, TakeMode};
 use mpi_call::lists::Starts;
@@ -718,57 +719,6 @@ fn last_reply(halt: Option<Halt>) -> Reply
         Some(halt) => Reply::Stopped(halt),
         None => Reply::Done,
     }
-}
-
-/// Writes down what the event at a position picked, where it picked. Takes no memory.
-fn note(picks: &mut Picks, at: u32, pick: Pick)
-    requires few { length picks.old.written ≤ at }
-    requires room { at < picks.old.room }
-    ensures { picks.new.written ≡ noted picks.old.written at pick }
-{
-    match pick {
-        Pick::First => {}
-        _ => picks.put(at, pick),
-    }
-}
-
-/// Room for an event and for what it picks. Answers the event's position.
-fn prepare_pick(course: &mut Course, picks: &mut Picks) -> Result<u32, AllocError>
-    ensures ranks { course.new.ranks ≡ course.old.ranks }
-    ensures events { course.new.events ≡ course.old.events }
-    ensures kept { course.new.kept ≡ course.old.kept }
-    ensures room { OnOk result (0 < course.new.spare) }
-    ensures picks { picks.new.written ≡ picks.old.written }
-    ensures at { IfOk result (λ at. (at ≡ length course.old.events) × (at < picks.new.room)) }
-{
-    course.reserve()?;
-    let at = course.history().len();
-    picks.reserve(at)?;
-    Ok(at)
-}
-
-/// Room for an event, and a copy of its reply.
-fn prepare_reply(course: &mut Course, reply: &Reply) -> Result<Reply, AllocError>
-    ensures ranks { course.new.ranks ≡ course.old.ranks }
-    ensures events { course.new.events ≡ course.old.events }
-    ensures kept { course.new.kept ≡ course.old.kept }
-    ensures room { OnOk result (0 < course.new.spare) }
-    ensures copied { IfOk result (λ copied. copied ≡ reply.now) }
-{
-    course.reserve()?;
-    reply::copy_of(reply)
-}
-
-/// Room for an event, and a copy of its items.
-fn prepare(course: &mut Course, items: &Items) -> Result<Items, AllocError>
-    ensures ranks { course.new.ranks ≡ course.old.ranks }
-    ensures events { course.new.events ≡ course.old.events }
-    ensures kept { course.new.kept ≡ course.old.kept }
-    ensures room { OnOk result (0 < course.new.spare) }
-    ensures copied { IfOk result (λ copied. copied ≡ items.now) }
-{
-    course.reserve()?;
-    items.clone()
 }
 
 /// The event of a completion that took these items, and its reply. When out of memory, they are not taken.

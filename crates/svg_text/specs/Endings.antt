@@ -16,7 +16,7 @@ use Rattle.wait_graph.specs.declared.graph.Blocked.{Blocked}
 use Rattle.wait_graph.specs.declared.graph.Graph.{Graph}
 use Rattle.wait_graph.specs.declared.wait.Wait.{Wait}
 use Rattle.wiz_base.specs.Decimals.{decimal_text}
-use Rattle.svg_text.specs.declared.endings.TheConstants.{MOST_CYCLES}
+use Rattle.svg_text.specs.declared.endings.TheConstants.{MOST_CHARACTERS, MOST_CYCLES}
 use Rattle.svg_text.specs.declared.endings.Arc.{Arc}
 use Rattle.svg_text.specs.declared.filling.Filler.TheVariants.{Number}
 use Rattle.svg_text.specs.declared.grid.Grid.{Grid}
@@ -158,10 +158,10 @@ beside_text all rank output = beside_by all (blocked_rank all rank) output
 abbrev pub beside_texts : List Blocked → List (List ℕ) → ℕ → List (List ℕ)
 beside_texts all outputs ranks = for_ranks (λ rank. beside_text all rank (slice_index_or outputs rank []) ∷ []) ranks
 
--- how many characters the longest has, of which at most 1000 count
+-- how many characters the longest has, of which at most `MOST_CHARACTERS` count
 abbrev pub longest : List (List ℕ) → ℕ
 longest [] = 0
-longest (text ∷ texts) = max (min (length text) 1000) (longest texts)
+longest (text ∷ texts) = max (min (length text) MOST_CHARACTERS) (longest texts)
 
 -- a text beside its lane
 abbrev pub style_text : Bool → List ℕ

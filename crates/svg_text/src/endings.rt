@@ -1,6 +1,6 @@
 //! Beside the lanes: who waits for whom, and how each rank ended.
 ghost use Rattle.std.specs.Prelude.{◌≡◌, ◌+◌, ◌*◌, ◌≤◌, ◌<◌, ◌^◌, ◌++◌, ◌∷◌, [], ℕ, List, IfOk, OnOk, Option, Some, codes, flat_map, length, option_map, slice_index_or, take};
-ghost use Rattle.svg_text.specs.declared.endings.TheConstants.{MOST_CYCLES};
+ghost use Rattle.svg_text.specs.declared.endings.TheConstants.{MOST_CHARACTERS, MOST_CYCLES};
 ghost use Rattle.std.specs.List.{list_any};
 ghost use Rattle.run_model.specs.declared.ending.Ending.{Ending as EndingSpec};
 ghost use Rattle.run_text.specs.CallTexts.{joined, numbers_text};
@@ -23,7 +23,7 @@ use wiz_base::{Bytes, push_decimal, push_text};
 /// How many bytes of an output are shown.
 const SHOWN: usize = 30;
 /// The most characters of a text beside a lane that count for the width.
-const MOST_CHARACTERS: usize = 1000;
+pub const MOST_CHARACTERS: usize = 1000;
 /// The most cycles that are shown; a run of the most ranks has no more.
 pub const MOST_CYCLES: usize = 64;
 
@@ -509,7 +509,7 @@ pub fn beside_texts(
 /// How many characters the longest text has, of which at most 1000 count.
 pub fn longest(texts: &[Bytes]) -> u64
     ensures longest { result ≡ longest texts.now }
-    ensures few { result ≤ 1000 }
+    ensures few { result ≤ MOST_CHARACTERS }
 {
     let mut most = 0u64;
     let mut rest = texts;

@@ -13,6 +13,7 @@ use Rattle.mpi_call.specs.declared.call.Tag.{Tag}
 use Rattle.mpi_call.specs.declared.call.Source.TheVariants.{Any as AnySource, From as FromRank, Null}
 use Rattle.mpi_call.specs.declared.call.TakeMode.{TakeMode}
 use Rattle.mpi_call.specs.declared.call.TakeMode.TheVariants.{Any as AnyOne, TestAny}
+use Rattle.mpi_call.specs.declared.limits.TheConstants.{MOST_STARTS}
 use Rattle.mpi_call.specs.declared.reply.Got.{Got}
 use Rattle.mpi_call.specs.declared.reply.Got.TheVariants.{Sent, Nothing as GotNothing, Message as GotMessage, Joined, Made}
 use Rattle.mpi_call.specs.declared.reply.Item.{Item}
@@ -276,7 +277,7 @@ taking_keeps : (n me : ℕ) (own : View) (number : ℕ) (s : State) (go : Reply 
     → KeepsLaws n me own s.printed (Asks s (take_one number) go)
 taking_keeps n me own number s go good below on = (
   prefix_refl s.printed,
-  (omega arith, omega arith, λ few. All-cons (λ k. k < 1000000) number [] (let starts = good.starts in omega (arith, starts, below, few)) (All-nil (λ k. k < 1000000))),
+  (omega arith, omega arith, λ few. All-cons (λ k. k < MOST_STARTS) number [] (let starts = good.starts in omega (arith, starts, below, few)) (All-nil (λ k. k < MOST_STARTS))),
   tt,
   λ reply shape. unless_ends (ends (take_one number, reply)) _ (on reply (good_reply n me own (take_one number) reply s good tt shape)),
 )
@@ -351,7 +352,7 @@ completing_keeps n me own requests mode answer (one ∷ more) s go good are on =
     let starts : length s.starts ≤ length own = good.starts in
     let below : All (λ k. k < length s.starts) (starts_in active) = All-map (λ k. k < length s.starts) (λ (one : Active). one.start) active are.below in (
       prefix_refl s.printed,
-      (omega arith, omega (arith, count, few), λ got. All-weaker (λ k. k < length s.starts) (λ k. k < 1000000) (λ k low. omega (arith, low, starts, got)) (starts_in active) below),
+      (omega arith, omega (arith, count, few), λ got. All-weaker (λ k. k < length s.starts) (λ k. k < MOST_STARTS) (λ k low. omega (arith, low, starts, got)) (starts_in active) below),
       tt,
       λ reply shape. unless_ends (ends (call, reply)) _
           (after_take_keeps n me (own ++ (call, reply) ∷ []) requests mode answer active reply s go (good_reply n me own call reply s good tt shape) on),
