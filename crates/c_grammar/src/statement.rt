@@ -273,7 +273,15 @@ pub enum ExternalDeclaration {
 }
 
 /// A whole program.
-#[derive(Drop)]
 pub struct Tree {
     pub externals: Vec<ExternalDeclaration>,
+}
+
+// Written out, so that what a tree holds is dropped by a function of this crate, and not by one of each crate that has trees.
+impl Drop for Tree {
+    fn drop(self) {
+        let Tree {
+            externals: _externals,
+        } = self;
+    }
 }

@@ -1,4 +1,5 @@
 //! Typed programs.
+ghost use Rattle.std.specs.Prelude.{◌≡◌, MatchOption, None, Some};
 
 use crate::statement::TypedPart;
 use run_model::program::Program;
@@ -22,17 +23,53 @@ pub struct TypedParameter {
 }
 
 /// A function: calls name it by its number. Its parameters are its first variables.
-#[derive(Drop)]
 pub struct Function {
     pub parameters: Vec<TypedParameter>,
     pub body: Vec<TypedPart>,
 }
 
+// Written out, so that what a function holds is dropped by a function of this crate, and not by one of each crate that has functions.
+impl Drop for Function {
+    fn drop(self) {
+        let Function {
+            parameters: _parameters,
+            body: _body,
+        } = self;
+    }
+}
+
+impl Function {
+    /// A function of its parameters and its body, where both are there.
+    pub fn of(
+        parameters: Option<Vec<TypedParameter>>,
+        body: Option<Vec<TypedPart>>,
+    ) -> Option<Function>
+        ensures { MatchOption parameters (result ≡ None) (λ parameters. MatchOption body (result ≡ None) (λ body. result ≡ Some (record { parameters = parameters; body = body }))) }
+    {
+        match parameters {
+            None => None,
+            Some(parameters) => match body {
+                None => None,
+                Some(body) => Some(Function { parameters, body }),
+            },
+        }
+    }
+}
+
 /// A program without faults: its functions in the order of the text, and the number of main.
-#[derive(Drop)]
 pub struct CProgram {
     pub functions: Vec<Function>,
     pub main: usize,
+}
+
+// Written out, so that what a program holds is dropped by a function of this crate, and not by one of each crate that has programs.
+impl Drop for CProgram {
+    fn drop(self) {
+        let CProgram {
+            functions: _functions,
+            main: _,
+        } = self;
+    }
 }
 
 impl Program for CProgram {

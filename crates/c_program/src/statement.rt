@@ -8,7 +8,6 @@ use c_names::operator::Operator;
 use wiz_base::Bytes;
 
 /// A statement that stands before a `;`.
-#[derive(Drop)]
 pub enum TypedSimple {
     /// `place = right`.
     Set {
@@ -29,6 +28,30 @@ pub enum TypedSimple {
     },
     /// `fflush(stdout)`, which does nothing.
     Flush,
+}
+
+// Written out, so that what a statement holds is dropped by a function of this crate, and not by one of each crate that has statements.
+impl Drop for TypedSimple {
+    fn drop(self) {
+        match self {
+            TypedSimple::Set {
+                place: _place,
+                right: _right,
+            } => {}
+            TypedSimple::Update {
+                place: _place,
+                operator: _,
+                right: _right,
+            } => {}
+            TypedSimple::Call(_call) => {}
+            TypedSimple::Mpi(_call) => {}
+            TypedSimple::Print {
+                format: _format,
+                arguments: _arguments,
+            } => {}
+            TypedSimple::Flush => {}
+        }
+    }
 }
 
 /// How a variable begins: as nothing of its kind, as a right side, or with some ints and then 0.

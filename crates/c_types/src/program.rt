@@ -38,13 +38,7 @@ fn function(
 ) -> Option<Function>
     ensures { option_map pure_function result ≡ if_both (λ parameters body. record { parameters = parameters; body = body }) (option_map (λ all. all.items) parameters) (option_map (λ all. pure_parts all.items) body) }
 {
-    match parameters {
-        None => None,
-        Some(parameters) => match body {
-            None => None,
-            Some(body) => Some(Function { parameters, body }),
-        },
-    }
+    Function::of(parameters, body)
 }
 
 /// A function as it is defined; the scope is then as before.
