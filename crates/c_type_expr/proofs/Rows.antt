@@ -1,7 +1,9 @@
 -- Rows of arguments: so many, or another number.
-use Rattle.std.proofs.Common.{◌≡◌, ◌≤◌, ◌<◌, ℕ, List, [], ◌∷◌, length, map, get_or, arith, Option, Result, refl, sym, ◌∙◌}
+use Rattle.std.proofs.Common.{◌≡◌, ◌≤◌, ◌<◌, List, [], ◌∷◌, length, map, get_or, arith, Option, Some, None, Result, Ok, Err, ap, refl, sym, ◌∙◌}
 use Rattle.std.proofs.lemmas.List.{length-map}
 use Rattle.std.specs.Borrow.{Bor}
+use Rattle.std.specs.declared.alloc.Global.{Global}
+use Rattle.std.specs.declared.boxed.Box.{Box}
 use Rattle.c_grammar.specs.StmtView.{argument_view}
 use Rattle.c_grammar.specs.Tree as t
 use Rattle.c_grammar.specs.declared.statement.Argument.{Argument}
@@ -13,10 +15,12 @@ use Rattle.c_names.specs.declared.function.MpiFunction.TheVariants as f
 use Rattle.c_program.specs.View.{pure_mpi}
 use Rattle.c_program.specs.declared.mpi.MpiCall.{MpiCall}
 use Rattle.c_scope.specs.Scopes.{Env}
-use Rattle.c_scope.specs.Typing.{refused}
+use Rattle.c_scope.specs.Typing.{Typing, refused}
 use Rattle.c_scope.specs.Walks.{Walked}
 use Rattle.c_scope.specs.declared.fault.TypingFault.{TypingFault}
+use Rattle.c_scope.proofs.Gives.{gives_form}
 use Rattle.c_type_expr.specs.MpiTyping.{mpi_typing}
+use Rattle.c_type_expr.specs.inside.Making.{IsMadeBy}
 use Rattle.c_type_expr.specs.declared.mpi_arguments.CallSite.{CallSite}
 
 -- ---- so many
@@ -75,6 +79,17 @@ pub of_twelve : {A : Type 0} (xs : List A) (a1 a2 a3 a4 a5 a6 a7 a8 a9 a10 a11 a
 of_twelve (x1 ∷ x2 ∷ x3 ∷ x4 ∷ x5 ∷ x6 ∷ x7 ∷ x8 ∷ x9 ∷ x10 ∷ x11 ∷ x12 ∷ []) a1 a2 a3 a4 a5 a6 a7 a8 a9 a10 a11 a12 low high e1 e2 e3 e4 e5 e6 e7 e8 e9 e10 e11 e12 = cc
 of_twelve xs a1 a2 a3 a4 a5 a6 a7 a8 a9 a10 a11 a12 low high e1 e2 e3 e4 e5 e6 e7 e8 e9 e10 e11 e12 = absurd (omega arith)
 
+-- ---- a call in a box, of what the walks of its arguments found
+
+pub made_of : {A B C E : Type 0} (old new : Option TypingFault) (g : A → C) (h : B → C) (t : Typing C) (makes : A → B → Type 0)
+    (found : Result (Option A) E) (result : Result (Option (Box B Global)) E)
+    → Walked g old new found t → IsMadeBy makes found result → ((a : A) (b : B) → makes a b → h b ≡ g a) → Walked (λ box. h box.value) old new result t
+made_of old new g h t makes found (Err e) w p same = tt
+made_of old new g h t makes (Ok (Some a)) (Ok (Some box)) w p same = gives_form w (ap (λ one. Some one) (same a box.value p))
+made_of old new g h t makes (Ok (Some a)) (Ok None) w p same = absurd p
+made_of old new g h t makes (Ok None) (Ok held) w p same = rw p w
+made_of old new g h t makes (Err e) (Ok held) w p same = absurd p
+
 -- ---- another number
 
 pub wrong_count : (function : MpiFunction) (env : Env) (name : Span) (given : List t.Argument) → (length given ≡ length (arguments function) → ⊥)
@@ -116,8 +131,8 @@ wrong_count f.CommDup env name (a0 ∷ a1 ∷ []) h = absurd (h refl)
 wrong_count f.Abort env name (a0 ∷ a1 ∷ []) h = absurd (h refl)
 wrong_count function env name given h = refl
 
-pub miscounted : {E : Type 0} (function : MpiFunction) (site : CallSite) (given : List (Bor Argument)) (old new : Option TypingFault) (result : Result (Option MpiCall) E)
-    → (length given ≡ length (arguments function) → ⊥) → Walked pure_mpi old new result (refused site.name WrongCount)
-    → Walked pure_mpi old new result (mpi_typing site.scope.now site.name function (map (λ one. argument_view one.now) given))
+pub miscounted : {E : Type 0} (function : MpiFunction) (site : CallSite) (given : List (Bor Argument)) (old new : Option TypingFault) (result : Result (Option (Box MpiCall Global)) E)
+    → (length given ≡ length (arguments function) → ⊥) → Walked (λ call. pure_mpi call.value) old new result (refused site.name WrongCount)
+    → Walked (λ call. pure_mpi call.value) old new result (mpi_typing site.scope.now site.name function (map (λ one. argument_view one.now) given))
 miscounted function site given old new result h w =
     rw (wrong_count function site.scope.now site.name (map (λ one. argument_view one.now) given) (λ e. h (sym (length-map given (λ one. argument_view one.now)) ∙ e))) w

@@ -1,2 +1,3 @@
 -- What only the crate's own functions cite, by subjects.
 pub mod FormatTests
+pub mod Making

@@ -13,7 +13,6 @@ ghost use Rattle.c_scope.specs.Walks.{Gives, Walked, mapped};
 ghost use Rattle.c_type_expr.specs.inside.FormatTests.{takes_ints};
 ghost use Rattle.c_type_expr.specs.Calls.{arguments_of, gives_int, right_first_token, without_quotes};
 ghost use Rattle.c_type_expr.specs.CallTyping.{call_typing, called_typing, flush_typing, format_typing, gives_typing, numbers_typing, print_typing, result_typing, right_typing, stream_meant, stream_typing};
-ghost use Rattle.c_type_expr.specs.ExprTyping.{function_typing};
 ghost use Rattle.c_type_expr.specs.MpiTyping.{mpi_typing};
 
 use crate::argument::{function_of, misfit_of, name_given, value_of};
@@ -30,7 +29,7 @@ use c_program::expr::{FunctionCall, TypedExpr, TypedRight};
 use c_program::mpi::MpiCall;
 use c_program::statement::TypedSimple;
 use c_scope::fault::{TypingFault, note_at};
-use c_scope::joins::{all, both, if_well, in_box, keep};
+use c_scope::joins::{all, both, if_well, keep};
 use c_scope::kind::first_token;
 use c_scope::meaning::{Entity, ExprKind, Meaning};
 use c_scope::scope::{Scope, token_bytes};
@@ -258,7 +257,7 @@ fn called_of(
             function_call(function_of(alloc, scope, best, name, number, given))
         }
         Meaning::Known(Predefined::Mpi(function)) => {
-            mpi_call(in_box(alloc, mpi_of(alloc, scope, best, name, function, given)))
+            mpi_call(mpi_of(alloc, scope, best, name, function, given))
         }
         Meaning::Known(Predefined::Printf) => print_of(alloc, scope, best, name, given),
         Meaning::Known(Predefined::Fflush) => flush_of(alloc, scope, best, name, given),

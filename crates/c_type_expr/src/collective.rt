@@ -6,12 +6,11 @@ ghost use Rattle.c_program.specs.View.{pure_mpi};
 ghost use Rattle.c_scope.specs.Walks.{Walked};
 ghost use Rattle.c_type_expr.specs.MpiTyping.{mpi_typing};
 
-use crate::forms::{four, made, three};
+use crate::forms::{call_from_four, call_from_one, call_from_three, call_from_two};
 use crate::mpi_arguments::CallSite;
 use c_grammar::statement::Argument;
 use c_program::mpi::{CollectiveCall, CommunicatorCall, MpiCall};
 use c_scope::fault::TypingFault;
-use c_scope::joins::both;
 use std::alloc::AllocError;
 
 impl<'a> CallSite<'a> {
@@ -20,11 +19,12 @@ impl<'a> CallSite<'a> {
         &self,
         best: &mut Option<TypingFault>,
         given: &[&Argument],
-    ) -> Result<Option<MpiCall>, AllocError>
-        ensures { Walked pure_mpi best.old best.new result (mpi_typing self.now.scope.now self.now.name f.Barrier (map (λ one. argument_view one.now) given.now)) }
+    ) -> Result<Option<Box<MpiCall>>, AllocError>
+        ensures { Walked (λ call. pure_mpi call.value) best.old best.new result (mpi_typing self.now.scope.now self.now.name f.Barrier (map (λ one. argument_view one.now) given.now)) }
     {
         match given {
-            [comm] => made(
+            [comm] => call_from_one(
+                self.alloc,
                 self.comm(best, comm),
                 |comm| MpiCall::Collective(CollectiveCall::Barrier { comm }),
             ),
@@ -37,17 +37,16 @@ impl<'a> CallSite<'a> {
         &self,
         best: &mut Option<TypingFault>,
         given: &[&Argument],
-    ) -> Result<Option<MpiCall>, AllocError>
-        ensures { Walked pure_mpi best.old best.new result (mpi_typing self.now.scope.now self.now.name f.Bcast (map (λ one. argument_view one.now) given.now)) }
+    ) -> Result<Option<Box<MpiCall>>, AllocError>
+        ensures { Walked (λ call. pure_mpi call.value) best.old best.new result (mpi_typing self.now.scope.now self.now.name f.Bcast (map (λ one. argument_view one.now) given.now)) }
     {
         match given {
-            [buffer, count, datatype, root, comm] => made(
-                three(
-                    self.buffer(best, buffer, count, datatype),
-                    self.number(best, root),
-                    self.comm(best, comm),
-                ),
-                |((buffer, root), comm)| MpiCall::Collective(CollectiveCall::Bcast {
+            [buffer, count, datatype, root, comm] => call_from_three(
+                self.alloc,
+                self.buffer(best, buffer, count, datatype),
+                self.number(best, root),
+                self.comm(best, comm),
+                |buffer, root, comm| MpiCall::Collective(CollectiveCall::Bcast {
                     buffer,
                     root,
                     comm,
@@ -62,8 +61,8 @@ impl<'a> CallSite<'a> {
         &self,
         best: &mut Option<TypingFault>,
         given: &[&Argument],
-    ) -> Result<Option<MpiCall>, AllocError>
-        ensures { Walked pure_mpi best.old best.new result (mpi_typing self.now.scope.now self.now.name f.Gather (map (λ one. argument_view one.now) given.now)) }
+    ) -> Result<Option<Box<MpiCall>>, AllocError>
+        ensures { Walked (λ call. pure_mpi call.value) best.old best.new result (mpi_typing self.now.scope.now self.now.name f.Gather (map (λ one. argument_view one.now) given.now)) }
     {
         match given {
             [
@@ -75,14 +74,13 @@ impl<'a> CallSite<'a> {
                 recvtype,
                 root,
                 comm,
-            ] => made(
-                four(
-                    self.buffer(best, sendbuf, sendcount, sendtype),
-                    self.buffer(best, recvbuf, recvcount, recvtype),
-                    self.number(best, root),
-                    self.comm(best, comm),
-                ),
-                |(((send, receive), root), comm)| MpiCall::Collective(CollectiveCall::Gather {
+            ] => call_from_four(
+                self.alloc,
+                self.buffer(best, sendbuf, sendcount, sendtype),
+                self.buffer(best, recvbuf, recvcount, recvtype),
+                self.number(best, root),
+                self.comm(best, comm),
+                |send, receive, root, comm| MpiCall::Collective(CollectiveCall::Gather {
                     send,
                     receive,
                     root,
@@ -98,8 +96,8 @@ impl<'a> CallSite<'a> {
         &self,
         best: &mut Option<TypingFault>,
         given: &[&Argument],
-    ) -> Result<Option<MpiCall>, AllocError>
-        ensures { Walked pure_mpi best.old best.new result (mpi_typing self.now.scope.now self.now.name f.Scatter (map (λ one. argument_view one.now) given.now)) }
+    ) -> Result<Option<Box<MpiCall>>, AllocError>
+        ensures { Walked (λ call. pure_mpi call.value) best.old best.new result (mpi_typing self.now.scope.now self.now.name f.Scatter (map (λ one. argument_view one.now) given.now)) }
     {
         match given {
             [
@@ -111,14 +109,13 @@ impl<'a> CallSite<'a> {
                 recvtype,
                 root,
                 comm,
-            ] => made(
-                four(
-                    self.buffer(best, sendbuf, sendcount, sendtype),
-                    self.buffer(best, recvbuf, recvcount, recvtype),
-                    self.number(best, root),
-                    self.comm(best, comm),
-                ),
-                |(((send, receive), root), comm)| MpiCall::Collective(CollectiveCall::Scatter {
+            ] => call_from_four(
+                self.alloc,
+                self.buffer(best, sendbuf, sendcount, sendtype),
+                self.buffer(best, recvbuf, recvcount, recvtype),
+                self.number(best, root),
+                self.comm(best, comm),
+                |send, receive, root, comm| MpiCall::Collective(CollectiveCall::Scatter {
                     send,
                     receive,
                     root,
@@ -134,8 +131,8 @@ impl<'a> CallSite<'a> {
         &self,
         best: &mut Option<TypingFault>,
         given: &[&Argument],
-    ) -> Result<Option<MpiCall>, AllocError>
-        ensures { Walked pure_mpi best.old best.new result (mpi_typing self.now.scope.now self.now.name f.Allgather (map (λ one. argument_view one.now) given.now)) }
+    ) -> Result<Option<Box<MpiCall>>, AllocError>
+        ensures { Walked (λ call. pure_mpi call.value) best.old best.new result (mpi_typing self.now.scope.now self.now.name f.Allgather (map (λ one. argument_view one.now) given.now)) }
     {
         match given {
             [
@@ -146,13 +143,12 @@ impl<'a> CallSite<'a> {
                 recvcount,
                 recvtype,
                 comm,
-            ] => made(
-                three(
-                    self.buffer(best, sendbuf, sendcount, sendtype),
-                    self.buffer(best, recvbuf, recvcount, recvtype),
-                    self.comm(best, comm),
-                ),
-                |((send, receive), comm)| MpiCall::Collective(CollectiveCall::Allgather {
+            ] => call_from_three(
+                self.alloc,
+                self.buffer(best, sendbuf, sendcount, sendtype),
+                self.buffer(best, recvbuf, recvcount, recvtype),
+                self.comm(best, comm),
+                |send, receive, comm| MpiCall::Collective(CollectiveCall::Allgather {
                     send,
                     receive,
                     comm,
@@ -167,8 +163,8 @@ impl<'a> CallSite<'a> {
         &self,
         best: &mut Option<TypingFault>,
         given: &[&Argument],
-    ) -> Result<Option<MpiCall>, AllocError>
-        ensures { Walked pure_mpi best.old best.new result (mpi_typing self.now.scope.now self.now.name f.Alltoall (map (λ one. argument_view one.now) given.now)) }
+    ) -> Result<Option<Box<MpiCall>>, AllocError>
+        ensures { Walked (λ call. pure_mpi call.value) best.old best.new result (mpi_typing self.now.scope.now self.now.name f.Alltoall (map (λ one. argument_view one.now) given.now)) }
     {
         match given {
             [
@@ -179,13 +175,12 @@ impl<'a> CallSite<'a> {
                 recvcount,
                 recvtype,
                 comm,
-            ] => made(
-                three(
-                    self.buffer(best, sendbuf, sendcount, sendtype),
-                    self.buffer(best, recvbuf, recvcount, recvtype),
-                    self.comm(best, comm),
-                ),
-                |((send, receive), comm)| MpiCall::Collective(CollectiveCall::Alltoall {
+            ] => call_from_three(
+                self.alloc,
+                self.buffer(best, sendbuf, sendcount, sendtype),
+                self.buffer(best, recvbuf, recvcount, recvtype),
+                self.comm(best, comm),
+                |send, receive, comm| MpiCall::Collective(CollectiveCall::Alltoall {
                     send,
                     receive,
                     comm,
@@ -200,17 +195,16 @@ impl<'a> CallSite<'a> {
         &self,
         best: &mut Option<TypingFault>,
         given: &[&Argument],
-    ) -> Result<Option<MpiCall>, AllocError>
-        ensures { Walked pure_mpi best.old best.new result (mpi_typing self.now.scope.now self.now.name f.Reduce (map (λ one. argument_view one.now) given.now)) }
+    ) -> Result<Option<Box<MpiCall>>, AllocError>
+        ensures { Walked (λ call. pure_mpi call.value) best.old best.new result (mpi_typing self.now.scope.now self.now.name f.Reduce (map (λ one. argument_view one.now) given.now)) }
     {
         match given {
-            [sendbuf, recvbuf, count, datatype, op, root, comm] => made(
-                three(
-                    self.reduction(best, sendbuf, recvbuf, count, datatype, op),
-                    self.number(best, root),
-                    self.comm(best, comm),
-                ),
-                |((reduction, root), comm)| MpiCall::Collective(CollectiveCall::Reduce {
+            [sendbuf, recvbuf, count, datatype, op, root, comm] => call_from_three(
+                self.alloc,
+                self.reduction(best, sendbuf, recvbuf, count, datatype, op),
+                self.number(best, root),
+                self.comm(best, comm),
+                |reduction, root, comm| MpiCall::Collective(CollectiveCall::Reduce {
                     reduction,
                     root,
                     comm,
@@ -225,16 +219,15 @@ impl<'a> CallSite<'a> {
         &self,
         best: &mut Option<TypingFault>,
         given: &[&Argument],
-    ) -> Result<Option<MpiCall>, AllocError>
-        ensures { Walked pure_mpi best.old best.new result (mpi_typing self.now.scope.now self.now.name f.Allreduce (map (λ one. argument_view one.now) given.now)) }
+    ) -> Result<Option<Box<MpiCall>>, AllocError>
+        ensures { Walked (λ call. pure_mpi call.value) best.old best.new result (mpi_typing self.now.scope.now self.now.name f.Allreduce (map (λ one. argument_view one.now) given.now)) }
     {
         match given {
-            [sendbuf, recvbuf, count, datatype, op, comm] => made(
-                both(
-                    self.reduction(best, sendbuf, recvbuf, count, datatype, op),
-                    self.comm(best, comm),
-                ),
-                |(reduction, comm)| MpiCall::Collective(CollectiveCall::Allreduce {
+            [sendbuf, recvbuf, count, datatype, op, comm] => call_from_two(
+                self.alloc,
+                self.reduction(best, sendbuf, recvbuf, count, datatype, op),
+                self.comm(best, comm),
+                |reduction, comm| MpiCall::Collective(CollectiveCall::Allreduce {
                     reduction,
                     comm,
                 }),
@@ -248,16 +241,15 @@ impl<'a> CallSite<'a> {
         &self,
         best: &mut Option<TypingFault>,
         given: &[&Argument],
-    ) -> Result<Option<MpiCall>, AllocError>
-        ensures { Walked pure_mpi best.old best.new result (mpi_typing self.now.scope.now self.now.name f.Scan (map (λ one. argument_view one.now) given.now)) }
+    ) -> Result<Option<Box<MpiCall>>, AllocError>
+        ensures { Walked (λ call. pure_mpi call.value) best.old best.new result (mpi_typing self.now.scope.now self.now.name f.Scan (map (λ one. argument_view one.now) given.now)) }
     {
         match given {
-            [sendbuf, recvbuf, count, datatype, op, comm] => made(
-                both(
-                    self.reduction(best, sendbuf, recvbuf, count, datatype, op),
-                    self.comm(best, comm),
-                ),
-                |(reduction, comm)| MpiCall::Collective(CollectiveCall::Scan { reduction, comm }),
+            [sendbuf, recvbuf, count, datatype, op, comm] => call_from_two(
+                self.alloc,
+                self.reduction(best, sendbuf, recvbuf, count, datatype, op),
+                self.comm(best, comm),
+                |reduction, comm| MpiCall::Collective(CollectiveCall::Scan { reduction, comm }),
             ),
             _ => self.wrong_count(best),
         }
@@ -270,13 +262,15 @@ impl<'a> CallSite<'a> {
         &self,
         best: &mut Option<TypingFault>,
         given: &[&Argument],
-    ) -> Result<Option<MpiCall>, AllocError>
-        ensures { Walked pure_mpi best.old best.new result (mpi_typing self.now.scope.now self.now.name f.CommSize (map (λ one. argument_view one.now) given.now)) }
+    ) -> Result<Option<Box<MpiCall>>, AllocError>
+        ensures { Walked (λ call. pure_mpi call.value) best.old best.new result (mpi_typing self.now.scope.now self.now.name f.CommSize (map (λ one. argument_view one.now) given.now)) }
     {
         match given {
-            [comm, size] => made(
-                both(self.comm(best, comm), self.ints(best, size)),
-                |(comm, size)| MpiCall::Communicator(CommunicatorCall::Size { comm, size }),
+            [comm, size] => call_from_two(
+                self.alloc,
+                self.comm(best, comm),
+                self.ints(best, size),
+                |comm, size| MpiCall::Communicator(CommunicatorCall::Size { comm, size }),
             ),
             _ => self.wrong_count(best),
         }
@@ -287,13 +281,15 @@ impl<'a> CallSite<'a> {
         &self,
         best: &mut Option<TypingFault>,
         given: &[&Argument],
-    ) -> Result<Option<MpiCall>, AllocError>
-        ensures { Walked pure_mpi best.old best.new result (mpi_typing self.now.scope.now self.now.name f.CommRank (map (λ one. argument_view one.now) given.now)) }
+    ) -> Result<Option<Box<MpiCall>>, AllocError>
+        ensures { Walked (λ call. pure_mpi call.value) best.old best.new result (mpi_typing self.now.scope.now self.now.name f.CommRank (map (λ one. argument_view one.now) given.now)) }
     {
         match given {
-            [comm, rank] => made(
-                both(self.comm(best, comm), self.ints(best, rank)),
-                |(comm, rank)| MpiCall::Communicator(CommunicatorCall::Rank { comm, rank }),
+            [comm, rank] => call_from_two(
+                self.alloc,
+                self.comm(best, comm),
+                self.ints(best, rank),
+                |comm, rank| MpiCall::Communicator(CommunicatorCall::Rank { comm, rank }),
             ),
             _ => self.wrong_count(best),
         }
@@ -304,13 +300,15 @@ impl<'a> CallSite<'a> {
         &self,
         best: &mut Option<TypingFault>,
         given: &[&Argument],
-    ) -> Result<Option<MpiCall>, AllocError>
-        ensures { Walked pure_mpi best.old best.new result (mpi_typing self.now.scope.now self.now.name f.CommDup (map (λ one. argument_view one.now) given.now)) }
+    ) -> Result<Option<Box<MpiCall>>, AllocError>
+        ensures { Walked (λ call. pure_mpi call.value) best.old best.new result (mpi_typing self.now.scope.now self.now.name f.CommDup (map (λ one. argument_view one.now) given.now)) }
     {
         match given {
-            [comm, newcomm] => made(
-                both(self.comm(best, comm), self.newcomm(best, newcomm)),
-                |(comm, made)| MpiCall::Communicator(CommunicatorCall::Dup { comm, made }),
+            [comm, newcomm] => call_from_two(
+                self.alloc,
+                self.comm(best, comm),
+                self.newcomm(best, newcomm),
+                |comm, made| MpiCall::Communicator(CommunicatorCall::Dup { comm, made }),
             ),
             _ => self.wrong_count(best),
         }
@@ -321,18 +319,17 @@ impl<'a> CallSite<'a> {
         &self,
         best: &mut Option<TypingFault>,
         given: &[&Argument],
-    ) -> Result<Option<MpiCall>, AllocError>
-        ensures { Walked pure_mpi best.old best.new result (mpi_typing self.now.scope.now self.now.name f.CommSplit (map (λ one. argument_view one.now) given.now)) }
+    ) -> Result<Option<Box<MpiCall>>, AllocError>
+        ensures { Walked (λ call. pure_mpi call.value) best.old best.new result (mpi_typing self.now.scope.now self.now.name f.CommSplit (map (λ one. argument_view one.now) given.now)) }
     {
         match given {
-            [comm, color, key, newcomm] => made(
-                four(
-                    self.comm(best, comm),
-                    self.number(best, color),
-                    self.number(best, key),
-                    self.newcomm(best, newcomm),
-                ),
-                |(((comm, color), key), made)| MpiCall::Communicator(CommunicatorCall::Split {
+            [comm, color, key, newcomm] => call_from_four(
+                self.alloc,
+                self.comm(best, comm),
+                self.number(best, color),
+                self.number(best, key),
+                self.newcomm(best, newcomm),
+                |comm, color, key, made| MpiCall::Communicator(CommunicatorCall::Split {
                     comm,
                     color,
                     key,
@@ -348,11 +345,12 @@ impl<'a> CallSite<'a> {
         &self,
         best: &mut Option<TypingFault>,
         given: &[&Argument],
-    ) -> Result<Option<MpiCall>, AllocError>
-        ensures { Walked pure_mpi best.old best.new result (mpi_typing self.now.scope.now self.now.name f.CommFree (map (λ one. argument_view one.now) given.now)) }
+    ) -> Result<Option<Box<MpiCall>>, AllocError>
+        ensures { Walked (λ call. pure_mpi call.value) best.old best.new result (mpi_typing self.now.scope.now self.now.name f.CommFree (map (λ one. argument_view one.now) given.now)) }
     {
         match given {
-            [comm] => made(
+            [comm] => call_from_one(
+                self.alloc,
                 self.newcomm(best, comm),
                 |comm| MpiCall::Communicator(CommunicatorCall::Free { comm }),
             ),

@@ -6,14 +6,13 @@ ghost use Rattle.c_program.specs.View.{pure_mpi};
 ghost use Rattle.c_scope.specs.Walks.{Walked};
 ghost use Rattle.c_type_expr.specs.MpiTyping.{init_typing, mpi_typing};
 
-use crate::forms::made;
+use crate::forms::{boxed, call_from_two};
 use crate::mpi_arguments::CallSite;
 use c_grammar::statement::Argument;
 use c_grammar::terminal::Span;
 use c_names::function::MpiFunction;
 use c_program::mpi::MpiCall;
 use c_scope::fault::TypingFault;
-use c_scope::joins::both;
 use c_scope::scope::Scope;
 use std::alloc::{AllocError, Global};
 
@@ -24,17 +23,23 @@ impl<'a> CallSite<'a> {
         best: &mut Option<TypingFault>,
         argc: &Argument,
         argv: &Argument,
-    ) -> Result<Option<MpiCall>, AllocError>
-        ensures { Walked pure_mpi best.old best.new result (init_typing self.now.scope.now (argument_view argc.now) (argument_view argv.now)) }
+    ) -> Result<Option<Box<MpiCall>>, AllocError>
+        ensures { Walked (λ call. pure_mpi call.value) best.old best.new result (init_typing self.now.scope.now (argument_view argc.now) (argument_view argv.now)) }
     {
         if self.is_null(argc) {
-            return made(both(self.null(best, argc), self.null(best, argv)), |_| {
-                MpiCall::Init
-            });
+            return call_from_two(
+                self.alloc,
+                self.null(best, argc),
+                self.null(best, argv),
+                |_, _| { MpiCall::Init },
+            );
         }
-        made(both(self.argc(best, argc), self.argv(best, argv)), |_| {
-            MpiCall::Init
-        })
+        call_from_two(
+            self.alloc,
+            self.argc(best, argc),
+            self.argv(best, argv),
+            |_, _| { MpiCall::Init },
+        )
     }
 
     /// `MPI_Init`.
@@ -42,8 +47,8 @@ impl<'a> CallSite<'a> {
         &self,
         best: &mut Option<TypingFault>,
         given: &[&Argument],
-    ) -> Result<Option<MpiCall>, AllocError>
-        ensures { Walked pure_mpi best.old best.new result (mpi_typing self.now.scope.now self.now.name f.Init (map (λ one. argument_view one.now) given.now)) }
+    ) -> Result<Option<Box<MpiCall>>, AllocError>
+        ensures { Walked (λ call. pure_mpi call.value) best.old best.new result (mpi_typing self.now.scope.now self.now.name f.Init (map (λ one. argument_view one.now) given.now)) }
     {
         match given {
             [argc, argv] => self.init_arguments(best, argc, argv),
@@ -56,11 +61,11 @@ impl<'a> CallSite<'a> {
         &self,
         best: &mut Option<TypingFault>,
         given: &[&Argument],
-    ) -> Result<Option<MpiCall>, AllocError>
-        ensures { Walked pure_mpi best.old best.new result (mpi_typing self.now.scope.now self.now.name f.Finalize (map (λ one. argument_view one.now) given.now)) }
+    ) -> Result<Option<Box<MpiCall>>, AllocError>
+        ensures { Walked (λ call. pure_mpi call.value) best.old best.new result (mpi_typing self.now.scope.now self.now.name f.Finalize (map (λ one. argument_view one.now) given.now)) }
     {
         match given {
-            [] => Ok(Some(MpiCall::Finalize)),
+            [] => boxed(self.alloc, MpiCall::Finalize),
             _ => self.wrong_count(best),
         }
     }
@@ -70,13 +75,15 @@ impl<'a> CallSite<'a> {
         &self,
         best: &mut Option<TypingFault>,
         given: &[&Argument],
-    ) -> Result<Option<MpiCall>, AllocError>
-        ensures { Walked pure_mpi best.old best.new result (mpi_typing self.now.scope.now self.now.name f.Abort (map (λ one. argument_view one.now) given.now)) }
+    ) -> Result<Option<Box<MpiCall>>, AllocError>
+        ensures { Walked (λ call. pure_mpi call.value) best.old best.new result (mpi_typing self.now.scope.now self.now.name f.Abort (map (λ one. argument_view one.now) given.now)) }
     {
         match given {
-            [comm, errorcode] => made(
-                both(self.comm(best, comm), self.number(best, errorcode)),
-                |(comm, code)| MpiCall::Abort { comm, code },
+            [comm, errorcode] => call_from_two(
+                self.alloc,
+                self.comm(best, comm),
+                self.number(best, errorcode),
+                |comm, code| MpiCall::Abort { comm, code },
             ),
             _ => self.wrong_count(best),
         }
@@ -88,8 +95,8 @@ impl<'a> CallSite<'a> {
         best: &mut Option<TypingFault>,
         function: MpiFunction,
         given: &[&Argument],
-    ) -> Result<Option<MpiCall>, AllocError>
-        ensures { Walked pure_mpi best.old best.new result (mpi_typing self.now.scope.now self.now.name function (map (λ one. argument_view one.now) given.now)) }
+    ) -> Result<Option<Box<MpiCall>>, AllocError>
+        ensures { Walked (λ call. pure_mpi call.value) best.old best.new result (mpi_typing self.now.scope.now self.now.name function (map (λ one. argument_view one.now) given.now)) }
     {
         match function {
             MpiFunction::Init => self.init(best, given),
@@ -139,8 +146,8 @@ pub fn mpi_of(
     name: Span,
     function: MpiFunction,
     given: &[&Argument],
-) -> Result<Option<MpiCall>, AllocError>
-    ensures { Walked pure_mpi best.old best.new result (mpi_typing scope.now name function (map (λ one. argument_view one.now) given.now)) }
+) -> Result<Option<Box<MpiCall>>, AllocError>
+    ensures { Walked (λ call. pure_mpi call.value) best.old best.new result (mpi_typing scope.now name function (map (λ one. argument_view one.now) given.now)) }
 {
     let site = CallSite { alloc, scope, name };
     site.mpi(best, function, given)

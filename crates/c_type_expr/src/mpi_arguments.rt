@@ -1,5 +1,5 @@
 //! Typing of the arguments of MPI functions, each by what it has to be, and of those that stand together.
-ghost use Rattle.std.specs.Prelude.{◌≡◌, ◌↔◌, IsTrue, MatchOption, None, Some, option_map, if◌then◌else◌};
+ghost use Rattle.std.specs.Prelude.{◌≡◌, MatchOption, None, Some, option_map};
 ghost use Rattle.c_grammar.specs.StmtView.{argument_view};
 ghost use Rattle.c_grammar.specs.Tree as t;
 ghost use Rattle.c_grammar.specs.declared.terminal.Span.{Span};
@@ -8,7 +8,7 @@ ghost use Rattle.c_names.specs.declared.kind.VariableKind.TheVariants.{Status};
 ghost use Rattle.c_names.specs.declared.predefined.Predefined.TheVariants as p;
 ghost use Rattle.c_program.specs.View.{pure_buffer, pure_expr, pure_incoming, pure_mpi, pure_outgoing, pure_reduction, pure_reference, pure_several};
 ghost use Rattle.c_scope.specs.Scopes.{meaning};
-ghost use Rattle.c_scope.specs.Typing.{onto, refused, typed};
+ghost use Rattle.c_scope.specs.Typing.{onto, refused};
 ghost use Rattle.c_scope.specs.Walks.{Gives, Walked};
 ghost use Rattle.c_scope.specs.declared.meaning.Meaning.TheVariants as m;
 ghost use Rattle.c_type_expr.specs.ExprTyping.{misfit_typing, reference_typing};
@@ -134,8 +134,8 @@ impl<'a> CallSite<'a> {
     pub(crate) fn wrong_count(
         &self,
         best: &mut Option<TypingFault>,
-    ) -> Result<Option<MpiCall>, AllocError>
-        ensures { Walked pure_mpi best.old best.new result (refused self.now.name WrongCount) }
+    ) -> Result<Option<Box<MpiCall>>, AllocError>
+        ensures { Walked (λ call. pure_mpi call.value) best.old best.new result (refused self.now.name WrongCount) }
     {
         Ok(refused(best, self.name, Why::WrongCount))
     }

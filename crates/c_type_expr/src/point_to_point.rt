@@ -6,12 +6,11 @@ ghost use Rattle.c_program.specs.View.{pure_mpi};
 ghost use Rattle.c_scope.specs.Walks.{Walked};
 ghost use Rattle.c_type_expr.specs.MpiTyping.{mpi_typing};
 
-use crate::forms::{five, four, made, three};
+use crate::forms::{call_from_five, call_from_four, call_from_one, call_from_three, call_from_two};
 use crate::mpi_arguments::CallSite;
 use c_grammar::statement::Argument;
 use c_program::mpi::{CompletionCall, MessageCall, MpiCall, ProbeCall};
 use c_scope::fault::TypingFault;
-use c_scope::joins::both;
 use std::alloc::AllocError;
 
 impl<'a> CallSite<'a> {
@@ -20,16 +19,15 @@ impl<'a> CallSite<'a> {
         &self,
         best: &mut Option<TypingFault>,
         given: &[&Argument],
-    ) -> Result<Option<MpiCall>, AllocError>
-        ensures { Walked pure_mpi best.old best.new result (mpi_typing self.now.scope.now self.now.name f.Send (map (λ one. argument_view one.now) given.now)) }
+    ) -> Result<Option<Box<MpiCall>>, AllocError>
+        ensures { Walked (λ call. pure_mpi call.value) best.old best.new result (mpi_typing self.now.scope.now self.now.name f.Send (map (λ one. argument_view one.now) given.now)) }
     {
         match given {
-            [buf, count, datatype, dest, tag, comm] => made(
-                both(
-                    self.outgoing(best, buf, count, datatype, dest, tag),
-                    self.comm(best, comm),
-                ),
-                |(message, comm)| MpiCall::Message(MessageCall::Send { message, comm }),
+            [buf, count, datatype, dest, tag, comm] => call_from_two(
+                self.alloc,
+                self.outgoing(best, buf, count, datatype, dest, tag),
+                self.comm(best, comm),
+                |message, comm| MpiCall::Message(MessageCall::Send { message, comm }),
             ),
             _ => self.wrong_count(best),
         }
@@ -40,16 +38,15 @@ impl<'a> CallSite<'a> {
         &self,
         best: &mut Option<TypingFault>,
         given: &[&Argument],
-    ) -> Result<Option<MpiCall>, AllocError>
-        ensures { Walked pure_mpi best.old best.new result (mpi_typing self.now.scope.now self.now.name f.Ssend (map (λ one. argument_view one.now) given.now)) }
+    ) -> Result<Option<Box<MpiCall>>, AllocError>
+        ensures { Walked (λ call. pure_mpi call.value) best.old best.new result (mpi_typing self.now.scope.now self.now.name f.Ssend (map (λ one. argument_view one.now) given.now)) }
     {
         match given {
-            [buf, count, datatype, dest, tag, comm] => made(
-                both(
-                    self.outgoing(best, buf, count, datatype, dest, tag),
-                    self.comm(best, comm),
-                ),
-                |(message, comm)| MpiCall::Message(MessageCall::Ssend { message, comm }),
+            [buf, count, datatype, dest, tag, comm] => call_from_two(
+                self.alloc,
+                self.outgoing(best, buf, count, datatype, dest, tag),
+                self.comm(best, comm),
+                |message, comm| MpiCall::Message(MessageCall::Ssend { message, comm }),
             ),
             _ => self.wrong_count(best),
         }
@@ -60,17 +57,16 @@ impl<'a> CallSite<'a> {
         &self,
         best: &mut Option<TypingFault>,
         given: &[&Argument],
-    ) -> Result<Option<MpiCall>, AllocError>
-        ensures { Walked pure_mpi best.old best.new result (mpi_typing self.now.scope.now self.now.name f.Recv (map (λ one. argument_view one.now) given.now)) }
+    ) -> Result<Option<Box<MpiCall>>, AllocError>
+        ensures { Walked (λ call. pure_mpi call.value) best.old best.new result (mpi_typing self.now.scope.now self.now.name f.Recv (map (λ one. argument_view one.now) given.now)) }
     {
         match given {
-            [buf, count, datatype, source, tag, comm, status] => made(
-                three(
-                    self.incoming(best, buf, count, datatype, source, tag),
-                    self.comm(best, comm),
-                    self.status(best, status),
-                ),
-                |((message, comm), status)| MpiCall::Message(MessageCall::Recv {
+            [buf, count, datatype, source, tag, comm, status] => call_from_three(
+                self.alloc,
+                self.incoming(best, buf, count, datatype, source, tag),
+                self.comm(best, comm),
+                self.status(best, status),
+                |message, comm, status| MpiCall::Message(MessageCall::Recv {
                     message,
                     comm,
                     status,
@@ -85,17 +81,16 @@ impl<'a> CallSite<'a> {
         &self,
         best: &mut Option<TypingFault>,
         given: &[&Argument],
-    ) -> Result<Option<MpiCall>, AllocError>
-        ensures { Walked pure_mpi best.old best.new result (mpi_typing self.now.scope.now self.now.name f.Isend (map (λ one. argument_view one.now) given.now)) }
+    ) -> Result<Option<Box<MpiCall>>, AllocError>
+        ensures { Walked (λ call. pure_mpi call.value) best.old best.new result (mpi_typing self.now.scope.now self.now.name f.Isend (map (λ one. argument_view one.now) given.now)) }
     {
         match given {
-            [buf, count, datatype, dest, tag, comm, request] => made(
-                three(
-                    self.outgoing(best, buf, count, datatype, dest, tag),
-                    self.comm(best, comm),
-                    self.requests(best, request),
-                ),
-                |((message, comm), request)| MpiCall::Message(MessageCall::Isend {
+            [buf, count, datatype, dest, tag, comm, request] => call_from_three(
+                self.alloc,
+                self.outgoing(best, buf, count, datatype, dest, tag),
+                self.comm(best, comm),
+                self.requests(best, request),
+                |message, comm, request| MpiCall::Message(MessageCall::Isend {
                     message,
                     comm,
                     request,
@@ -110,17 +105,16 @@ impl<'a> CallSite<'a> {
         &self,
         best: &mut Option<TypingFault>,
         given: &[&Argument],
-    ) -> Result<Option<MpiCall>, AllocError>
-        ensures { Walked pure_mpi best.old best.new result (mpi_typing self.now.scope.now self.now.name f.Issend (map (λ one. argument_view one.now) given.now)) }
+    ) -> Result<Option<Box<MpiCall>>, AllocError>
+        ensures { Walked (λ call. pure_mpi call.value) best.old best.new result (mpi_typing self.now.scope.now self.now.name f.Issend (map (λ one. argument_view one.now) given.now)) }
     {
         match given {
-            [buf, count, datatype, dest, tag, comm, request] => made(
-                three(
-                    self.outgoing(best, buf, count, datatype, dest, tag),
-                    self.comm(best, comm),
-                    self.requests(best, request),
-                ),
-                |((message, comm), request)| MpiCall::Message(MessageCall::Issend {
+            [buf, count, datatype, dest, tag, comm, request] => call_from_three(
+                self.alloc,
+                self.outgoing(best, buf, count, datatype, dest, tag),
+                self.comm(best, comm),
+                self.requests(best, request),
+                |message, comm, request| MpiCall::Message(MessageCall::Issend {
                     message,
                     comm,
                     request,
@@ -135,17 +129,16 @@ impl<'a> CallSite<'a> {
         &self,
         best: &mut Option<TypingFault>,
         given: &[&Argument],
-    ) -> Result<Option<MpiCall>, AllocError>
-        ensures { Walked pure_mpi best.old best.new result (mpi_typing self.now.scope.now self.now.name f.Irecv (map (λ one. argument_view one.now) given.now)) }
+    ) -> Result<Option<Box<MpiCall>>, AllocError>
+        ensures { Walked (λ call. pure_mpi call.value) best.old best.new result (mpi_typing self.now.scope.now self.now.name f.Irecv (map (λ one. argument_view one.now) given.now)) }
     {
         match given {
-            [buf, count, datatype, source, tag, comm, request] => made(
-                three(
-                    self.incoming(best, buf, count, datatype, source, tag),
-                    self.comm(best, comm),
-                    self.requests(best, request),
-                ),
-                |((message, comm), request)| MpiCall::Message(MessageCall::Irecv {
+            [buf, count, datatype, source, tag, comm, request] => call_from_three(
+                self.alloc,
+                self.incoming(best, buf, count, datatype, source, tag),
+                self.comm(best, comm),
+                self.requests(best, request),
+                |message, comm, request| MpiCall::Message(MessageCall::Irecv {
                     message,
                     comm,
                     request,
@@ -160,8 +153,8 @@ impl<'a> CallSite<'a> {
         &self,
         best: &mut Option<TypingFault>,
         given: &[&Argument],
-    ) -> Result<Option<MpiCall>, AllocError>
-        ensures { Walked pure_mpi best.old best.new result (mpi_typing self.now.scope.now self.now.name f.Sendrecv (map (λ one. argument_view one.now) given.now)) }
+    ) -> Result<Option<Box<MpiCall>>, AllocError>
+        ensures { Walked (λ call. pure_mpi call.value) best.old best.new result (mpi_typing self.now.scope.now self.now.name f.Sendrecv (map (λ one. argument_view one.now) given.now)) }
     {
         match given {
             [
@@ -177,14 +170,13 @@ impl<'a> CallSite<'a> {
                 recvtag,
                 comm,
                 status,
-            ] => made(
-                four(
-                    self.outgoing(best, sendbuf, sendcount, sendtype, dest, sendtag),
-                    self.incoming(best, recvbuf, recvcount, recvtype, source, recvtag),
-                    self.comm(best, comm),
-                    self.status(best, status),
-                ),
-                |(((send, receive), comm), status)| MpiCall::Message(MessageCall::Sendrecv {
+            ] => call_from_four(
+                self.alloc,
+                self.outgoing(best, sendbuf, sendcount, sendtype, dest, sendtag),
+                self.incoming(best, recvbuf, recvcount, recvtype, source, recvtag),
+                self.comm(best, comm),
+                self.status(best, status),
+                |send, receive, comm, status| MpiCall::Message(MessageCall::Sendrecv {
                     send,
                     receive,
                     comm,
@@ -202,13 +194,15 @@ impl<'a> CallSite<'a> {
         &self,
         best: &mut Option<TypingFault>,
         given: &[&Argument],
-    ) -> Result<Option<MpiCall>, AllocError>
-        ensures { Walked pure_mpi best.old best.new result (mpi_typing self.now.scope.now self.now.name f.Wait (map (λ one. argument_view one.now) given.now)) }
+    ) -> Result<Option<Box<MpiCall>>, AllocError>
+        ensures { Walked (λ call. pure_mpi call.value) best.old best.new result (mpi_typing self.now.scope.now self.now.name f.Wait (map (λ one. argument_view one.now) given.now)) }
     {
         match given {
-            [request, status] => made(
-                both(self.requests(best, request), self.status(best, status)),
-                |(request, status)| MpiCall::Completion(CompletionCall::Wait { request, status }),
+            [request, status] => call_from_two(
+                self.alloc,
+                self.requests(best, request),
+                self.status(best, status),
+                |request, status| MpiCall::Completion(CompletionCall::Wait { request, status }),
             ),
             _ => self.wrong_count(best),
         }
@@ -219,17 +213,16 @@ impl<'a> CallSite<'a> {
         &self,
         best: &mut Option<TypingFault>,
         given: &[&Argument],
-    ) -> Result<Option<MpiCall>, AllocError>
-        ensures { Walked pure_mpi best.old best.new result (mpi_typing self.now.scope.now self.now.name f.Test (map (λ one. argument_view one.now) given.now)) }
+    ) -> Result<Option<Box<MpiCall>>, AllocError>
+        ensures { Walked (λ call. pure_mpi call.value) best.old best.new result (mpi_typing self.now.scope.now self.now.name f.Test (map (λ one. argument_view one.now) given.now)) }
     {
         match given {
-            [request, flag, status] => made(
-                three(
-                    self.requests(best, request),
-                    self.ints(best, flag),
-                    self.status(best, status),
-                ),
-                |((request, flag), status)| MpiCall::Completion(CompletionCall::Test {
+            [request, flag, status] => call_from_three(
+                self.alloc,
+                self.requests(best, request),
+                self.ints(best, flag),
+                self.status(best, status),
+                |request, flag, status| MpiCall::Completion(CompletionCall::Test {
                     request,
                     flag,
                     status,
@@ -244,25 +237,22 @@ impl<'a> CallSite<'a> {
         &self,
         best: &mut Option<TypingFault>,
         given: &[&Argument],
-    ) -> Result<Option<MpiCall>, AllocError>
-        ensures { Walked pure_mpi best.old best.new result (mpi_typing self.now.scope.now self.now.name f.Waitany (map (λ one. argument_view one.now) given.now)) }
+    ) -> Result<Option<Box<MpiCall>>, AllocError>
+        ensures { Walked (λ call. pure_mpi call.value) best.old best.new result (mpi_typing self.now.scope.now self.now.name f.Waitany (map (λ one. argument_view one.now) given.now)) }
     {
         match given {
-            [count, requests, index, status] => made(
-                four(
-                    self.number(best, count),
-                    self.requests(best, requests),
-                    self.ints(best, index),
-                    self.status(best, status),
-                ),
-                |(((count, requests), index), status)| MpiCall::Completion(
-                    CompletionCall::Waitany {
-                        count,
-                        requests,
-                        index,
-                        status,
-                    },
-                ),
+            [count, requests, index, status] => call_from_four(
+                self.alloc,
+                self.number(best, count),
+                self.requests(best, requests),
+                self.ints(best, index),
+                self.status(best, status),
+                |count, requests, index, status| MpiCall::Completion(CompletionCall::Waitany {
+                    count,
+                    requests,
+                    index,
+                    status,
+                }),
             ),
             _ => self.wrong_count(best),
         }
@@ -273,19 +263,18 @@ impl<'a> CallSite<'a> {
         &self,
         best: &mut Option<TypingFault>,
         given: &[&Argument],
-    ) -> Result<Option<MpiCall>, AllocError>
-        ensures { Walked pure_mpi best.old best.new result (mpi_typing self.now.scope.now self.now.name f.Testany (map (λ one. argument_view one.now) given.now)) }
+    ) -> Result<Option<Box<MpiCall>>, AllocError>
+        ensures { Walked (λ call. pure_mpi call.value) best.old best.new result (mpi_typing self.now.scope.now self.now.name f.Testany (map (λ one. argument_view one.now) given.now)) }
     {
         match given {
-            [count, requests, index, flag, status] => made(
-                five(
-                    self.number(best, count),
-                    self.requests(best, requests),
-                    self.ints(best, index),
-                    self.ints(best, flag),
-                    self.status(best, status),
-                ),
-                |((((count, requests), index), flag), status)| MpiCall::Completion(
+            [count, requests, index, flag, status] => call_from_five(
+                self.alloc,
+                self.number(best, count),
+                self.requests(best, requests),
+                self.ints(best, index),
+                self.ints(best, flag),
+                self.status(best, status),
+                |count, requests, index, flag, status| MpiCall::Completion(
                     CompletionCall::Testany {
                         count,
                         requests,
@@ -304,17 +293,16 @@ impl<'a> CallSite<'a> {
         &self,
         best: &mut Option<TypingFault>,
         given: &[&Argument],
-    ) -> Result<Option<MpiCall>, AllocError>
-        ensures { Walked pure_mpi best.old best.new result (mpi_typing self.now.scope.now self.now.name f.Waitall (map (λ one. argument_view one.now) given.now)) }
+    ) -> Result<Option<Box<MpiCall>>, AllocError>
+        ensures { Walked (λ call. pure_mpi call.value) best.old best.new result (mpi_typing self.now.scope.now self.now.name f.Waitall (map (λ one. argument_view one.now) given.now)) }
     {
         match given {
-            [count, requests, statuses] => made(
-                three(
-                    self.number(best, count),
-                    self.requests(best, requests),
-                    self.statuses(best, statuses),
-                ),
-                |((count, requests), statuses)| MpiCall::Completion(CompletionCall::Waitall {
+            [count, requests, statuses] => call_from_three(
+                self.alloc,
+                self.number(best, count),
+                self.requests(best, requests),
+                self.statuses(best, statuses),
+                |count, requests, statuses| MpiCall::Completion(CompletionCall::Waitall {
                     count,
                     requests,
                     statuses,
@@ -329,25 +317,22 @@ impl<'a> CallSite<'a> {
         &self,
         best: &mut Option<TypingFault>,
         given: &[&Argument],
-    ) -> Result<Option<MpiCall>, AllocError>
-        ensures { Walked pure_mpi best.old best.new result (mpi_typing self.now.scope.now self.now.name f.Testall (map (λ one. argument_view one.now) given.now)) }
+    ) -> Result<Option<Box<MpiCall>>, AllocError>
+        ensures { Walked (λ call. pure_mpi call.value) best.old best.new result (mpi_typing self.now.scope.now self.now.name f.Testall (map (λ one. argument_view one.now) given.now)) }
     {
         match given {
-            [count, requests, flag, statuses] => made(
-                four(
-                    self.number(best, count),
-                    self.requests(best, requests),
-                    self.ints(best, flag),
-                    self.statuses(best, statuses),
-                ),
-                |(((count, requests), flag), statuses)| MpiCall::Completion(
-                    CompletionCall::Testall {
-                        count,
-                        requests,
-                        flag,
-                        statuses,
-                    },
-                ),
+            [count, requests, flag, statuses] => call_from_four(
+                self.alloc,
+                self.number(best, count),
+                self.requests(best, requests),
+                self.ints(best, flag),
+                self.statuses(best, statuses),
+                |count, requests, flag, statuses| MpiCall::Completion(CompletionCall::Testall {
+                    count,
+                    requests,
+                    flag,
+                    statuses,
+                }),
             ),
             _ => self.wrong_count(best),
         }
@@ -358,11 +343,12 @@ impl<'a> CallSite<'a> {
         &self,
         best: &mut Option<TypingFault>,
         given: &[&Argument],
-    ) -> Result<Option<MpiCall>, AllocError>
-        ensures { Walked pure_mpi best.old best.new result (mpi_typing self.now.scope.now self.now.name f.Waitsome (map (λ one. argument_view one.now) given.now)) }
+    ) -> Result<Option<Box<MpiCall>>, AllocError>
+        ensures { Walked (λ call. pure_mpi call.value) best.old best.new result (mpi_typing self.now.scope.now self.now.name f.Waitsome (map (λ one. argument_view one.now) given.now)) }
     {
         match given {
-            [incount, requests, outcount, indices, statuses] => made(
+            [incount, requests, outcount, indices, statuses] => call_from_one(
+                self.alloc,
                 self.several(best, incount, requests, outcount, indices, statuses),
                 |several| MpiCall::Completion(CompletionCall::Waitsome(several)),
             ),
@@ -375,11 +361,12 @@ impl<'a> CallSite<'a> {
         &self,
         best: &mut Option<TypingFault>,
         given: &[&Argument],
-    ) -> Result<Option<MpiCall>, AllocError>
-        ensures { Walked pure_mpi best.old best.new result (mpi_typing self.now.scope.now self.now.name f.Testsome (map (λ one. argument_view one.now) given.now)) }
+    ) -> Result<Option<Box<MpiCall>>, AllocError>
+        ensures { Walked (λ call. pure_mpi call.value) best.old best.new result (mpi_typing self.now.scope.now self.now.name f.Testsome (map (λ one. argument_view one.now) given.now)) }
     {
         match given {
-            [incount, requests, outcount, indices, statuses] => made(
+            [incount, requests, outcount, indices, statuses] => call_from_one(
+                self.alloc,
                 self.several(best, incount, requests, outcount, indices, statuses),
                 |several| MpiCall::Completion(CompletionCall::Testsome(several)),
             ),
@@ -394,18 +381,17 @@ impl<'a> CallSite<'a> {
         &self,
         best: &mut Option<TypingFault>,
         given: &[&Argument],
-    ) -> Result<Option<MpiCall>, AllocError>
-        ensures { Walked pure_mpi best.old best.new result (mpi_typing self.now.scope.now self.now.name f.Probe (map (λ one. argument_view one.now) given.now)) }
+    ) -> Result<Option<Box<MpiCall>>, AllocError>
+        ensures { Walked (λ call. pure_mpi call.value) best.old best.new result (mpi_typing self.now.scope.now self.now.name f.Probe (map (λ one. argument_view one.now) given.now)) }
     {
         match given {
-            [source, tag, comm, status] => made(
-                four(
-                    self.number(best, source),
-                    self.number(best, tag),
-                    self.comm(best, comm),
-                    self.status(best, status),
-                ),
-                |(((source, tag), comm), status)| MpiCall::Probe(ProbeCall::Probe {
+            [source, tag, comm, status] => call_from_four(
+                self.alloc,
+                self.number(best, source),
+                self.number(best, tag),
+                self.comm(best, comm),
+                self.status(best, status),
+                |source, tag, comm, status| MpiCall::Probe(ProbeCall::Probe {
                     source,
                     tag,
                     comm,
@@ -421,19 +407,18 @@ impl<'a> CallSite<'a> {
         &self,
         best: &mut Option<TypingFault>,
         given: &[&Argument],
-    ) -> Result<Option<MpiCall>, AllocError>
-        ensures { Walked pure_mpi best.old best.new result (mpi_typing self.now.scope.now self.now.name f.Iprobe (map (λ one. argument_view one.now) given.now)) }
+    ) -> Result<Option<Box<MpiCall>>, AllocError>
+        ensures { Walked (λ call. pure_mpi call.value) best.old best.new result (mpi_typing self.now.scope.now self.now.name f.Iprobe (map (λ one. argument_view one.now) given.now)) }
     {
         match given {
-            [source, tag, comm, flag, status] => made(
-                five(
-                    self.number(best, source),
-                    self.number(best, tag),
-                    self.comm(best, comm),
-                    self.ints(best, flag),
-                    self.status(best, status),
-                ),
-                |((((source, tag), comm), flag), status)| MpiCall::Probe(ProbeCall::Iprobe {
+            [source, tag, comm, flag, status] => call_from_five(
+                self.alloc,
+                self.number(best, source),
+                self.number(best, tag),
+                self.comm(best, comm),
+                self.ints(best, flag),
+                self.status(best, status),
+                |source, tag, comm, flag, status| MpiCall::Probe(ProbeCall::Iprobe {
                     source,
                     tag,
                     comm,
@@ -450,17 +435,16 @@ impl<'a> CallSite<'a> {
         &self,
         best: &mut Option<TypingFault>,
         given: &[&Argument],
-    ) -> Result<Option<MpiCall>, AllocError>
-        ensures { Walked pure_mpi best.old best.new result (mpi_typing self.now.scope.now self.now.name f.GetCount (map (λ one. argument_view one.now) given.now)) }
+    ) -> Result<Option<Box<MpiCall>>, AllocError>
+        ensures { Walked (λ call. pure_mpi call.value) best.old best.new result (mpi_typing self.now.scope.now self.now.name f.GetCount (map (λ one. argument_view one.now) given.now)) }
     {
         match given {
-            [status, datatype, count] => made(
-                three(
-                    self.status(best, status),
-                    self.datatype(best, datatype),
-                    self.ints(best, count),
-                ),
-                |((status, ()), count)| MpiCall::Probe(ProbeCall::GetCount { status, count }),
+            [status, datatype, count] => call_from_three(
+                self.alloc,
+                self.status(best, status),
+                self.datatype(best, datatype),
+                self.ints(best, count),
+                |status, (), count| MpiCall::Probe(ProbeCall::GetCount { status, count }),
             ),
             _ => self.wrong_count(best),
         }

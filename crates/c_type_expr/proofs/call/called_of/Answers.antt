@@ -6,7 +6,6 @@ use Rattle.c_scope.specs.Walks.{Walked}
 use Rattle.c_scope.specs.declared.meaning.Meaning.{Meaning}
 use Rattle.c_scope.specs.declared.meaning.Meaning.TheVariants.{Known}
 use Rattle.c_scope.proofs.Gives.{walked_onto}
-use Rattle.c_scope.proofs.JoinRules.{walked_boxed}
 use Rattle.c_type_expr.specs.CallTyping.{called_typing}
 use Rattle.c_type_expr.specs.MpiTyping.{mpi_typing}
 use Rattle.c_type_expr.proofs.call.called_of.Goals as goal
@@ -17,5 +16,5 @@ returns-in-Known-Mpi c =
     let P : Meaning → Type 0 = λ meant.
     Walked pure_simple c.args.best.now c.mpi_of.new.best c.mpi_call.result (called_typing c.args.scope.now c.args.name meant (map (λ one. argument_view one.now) c.args.given.now)) in
     subst P (sym (sym c.meaning.ensures ∙ c.in-Known-Mpi.is ∙ ap Known c.in-Known-Mpi.field-0-is))
-    (walked_onto c.args.best.now c.mpi_of.new.best (λ held. pure_mpi held.value) pure_simple pure.mpi call c.in_box.result c.mpi_call.result
-    (walked_boxed c.args.best.now c.mpi_of.new.best pure_mpi call c.mpi_of.result c.in_box.result c.mpi_of.ensures c.in_box.ensures) c.mpi_call.ensures)
+    (walked_onto c.args.best.now c.mpi_of.new.best (λ held. pure_mpi held.value) pure_simple pure.mpi call c.mpi_of.result c.mpi_call.result
+    c.mpi_of.ensures c.mpi_call.ensures)

@@ -1,15 +1,15 @@
-use Rattle.std.proofs.Common.{arith}
+use Rattle.std.proofs.Common.{arith, refl}
 use Rattle.c_names.specs.declared.function.MpiFunction.TheVariants as f
-use Rattle.c_scope.proofs.Gives.{mapped_onto, walked_made, walked_two}
-use Rattle.c_type_expr.proofs.Rows.{miscounted, of_two}
+use Rattle.c_scope.proofs.Gives.{mapped_onto, walked_two}
+use Rattle.c_type_expr.proofs.Rows.{made_of, miscounted, of_two}
 use Rattle.c_type_expr.proofs.mpi_arguments.CallSite.comm_rank.Goals as goal
 
 pub returns-in-len2 : goal.returns-in-len2
 returns-in-len2 c =
     rw (of_two _ _ _ c.in-len2.len_at_least c.in-len2.len_below c.comm-item.is c.rank-item.is)
-    (walked_made _ _ _ _ _ _ _ _ (mapped_onto _ _ _ _ _ _
-    (walked_two _ _ _ _ _ _ _ _ _ _ _ c.comm.ensures c.ints.ensures c.both.ensures))
-    c.made.ensures (λ a b p. cc))
+    (made_of _ _ _ _ _ _ _ _ (mapped_onto _ _ _ _ _ _
+    (walked_two _ _ _ _ _ _ _ _ _ _ _ c.comm.ensures c.ints.ensures refl))
+    c.call_from_two.ensures (λ a b p. cc))
 
 pub returns-in_default : goal.returns-in_default
 returns-in_default c = miscounted f.CommRank c.args.self.now c.args.given.now _ _ _ (λ h. grind arith) c.wrong_count.ensures
