@@ -131,7 +131,7 @@ fn show_usage<E: Print>(errors: &E, words: &[&str]) {
 
 /// Shows the line of a program's first fault. What cannot be made or shown is left out.
 fn show_fault<E: Print>(alloc: Global, errors: &E, text: &[u8]) {
-    if let Some(line) = fault_line(alloc, text) {
+    if let Ok(Some(line)) = fault_line(alloc, text) {
         let _ = io::writer(errors).write_all(line.as_slice());
     }
 }

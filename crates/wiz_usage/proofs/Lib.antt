@@ -1,2 +1,3 @@
-mod FaultLines
 mod LineLaws
+mod PlaceLines
+mod FaultLines

@@ -1,5 +1,5 @@
 //! A line of a text with a mark under one of its columns.
-ghost use Rattle.std.specs.Prelude.{◌≡◌, ◌≤◌, ◌++◌, ◌-◌, IfOk, OnOk, MatchOption, ⊤, codes, map, replicate};
+ghost use Rattle.std.specs.Prelude.{◌≡◌, ◌++◌, ◌-◌, ℕ, IfOk, List, OnOk, MatchOption, map, replicate};
 ghost use Rattle.wiz_usage.specs.Marks.{IsLineOf, IsMarked, shown};
 
 use std::alloc::{AllocError, Global};
@@ -17,7 +17,7 @@ pub fn marked_line(
     line: u32,
     column: u32,
 ) -> Result<Option<Bytes>, AllocError>
-    ensures { IfOk result (λ found. MatchOption found ⊤ (IsMarked text.now line column)) }
+    ensures { IfOk result (λ found. MatchOption found ((one : List ℕ) → IsLineOf text.now line one → ⊥) (IsMarked text.now line column)) }
 {
     let Some(bytes) = line_at(text, line) else {
         return Ok(None);
@@ -32,7 +32,7 @@ pub fn marked_line(
 
 /// The line with this number, without its newline. Behind the last newline there is a line too, which may be empty.
 fn line_at(text: &[u8], number: u32) -> Option<&[u8]>
-    ensures { MatchOption result ⊤ (λ line. IsLineOf text.now number line.now) }
+    ensures { MatchOption result ((line : List ℕ) → IsLineOf text.now number line → ⊥) (λ line. IsLineOf text.now number line.now) }
 {
     if number == 0 {
         return None;
