@@ -1,5 +1,4 @@
 //! The locked value.
-ghost use Rattle.std.specs.Prelude.{◌≡◌, ◌++◌, ◌∷◌, [], MatchBool};
 
 use turn_lock::Ledger;
 

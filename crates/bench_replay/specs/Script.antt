@@ -1,5 +1,5 @@
 -- The script: rank 0 sends a number of messages to rank 1, which completes each receive before it posts the next.
-use Rattle.std.specs.Prelude.{◌*◌, ◌/◌, ◌%◌, ℕ, pos, List, [], ◌∷◌, Option, Some, None, Bool, true, false, ◌==◌, ◌||◌, if◌then◌else◌, length, nat_lt}
+use Rattle.std.specs.Prelude.{◌*◌, ◌/◌, ◌%◌, ℕ, pos, List, [], ◌∷◌, Some, None, Bool, true, false, ◌==◌, ◌||◌, if◌then◌else◌, length, nat_lt}
 use Rattle.std.specs.List.{list_any}
 use Rattle.mpi_call.specs.declared.call.Call.{Call}
 use Rattle.mpi_call.specs.declared.call.Call.TheVariants.{Send, Post, Take, End}

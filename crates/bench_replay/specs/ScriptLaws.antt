@@ -1,9 +1,9 @@
 -- The script keeps the laws of programs.
-use Rattle.std.proofs.Common.{if◌then◌else◌, subst, ◌≡◌, ◌<◌, ◌≤◌, ◌+◌, ◌*◌, ◌/◌, ◌%◌, ◌^◌, ◌↔◌, ℕ, zero, suc, pos, List, [], ◌∷◌, ◌++◌, inl, inr, Some, None, Bool, true, false, ◌==◌, ◌||◌, ◌&&◌, refl, ap, sym, ◌∙◌, arith, length, length-append, map, ltb}
+use Rattle.std.proofs.Common.{if◌then◌else◌, subst, ◌≡◌, ◌<◌, ◌≤◌, ◌+◌, ◌/◌, ◌%◌, ◌↔◌, ℕ, suc, pos, List, [], ◌∷◌, ◌++◌, inl, inr, Some, None, Bool, true, false, ◌==◌, ◌||◌, refl, ap, sym, ◌∙◌, arith, length, length-append, ltb}
 use Rattle.std.specs.List.{list_any}
-use Rattle.std.proofs.lemmas.Bool.{eqb-true, eq-eqb, le-ltb, lt-ltb, ltb-false, ltb-true}
+use Rattle.std.proofs.lemmas.Bool.{le-ltb, lt-ltb, ltb-false, ltb-true}
 use Rattle.mpi_call.specs.declared.call.Call.{Call}
-use Rattle.mpi_call.specs.declared.call.Call.TheVariants.{Send, Post, Enter, Take, Peek, Abort, Trap, End}
+use Rattle.mpi_call.specs.declared.call.Call.TheVariants.{Send, Post, Take, End}
 use Rattle.mpi_call.specs.declared.call.Source.TheVariants.{From}
 use Rattle.mpi_call.specs.declared.call.Tag.TheVariants.{Is}
 use Rattle.mpi_call.specs.declared.call.TakeMode.TheVariants.{All}

@@ -1,5 +1,5 @@
 //! The log of the script.
-ghost use Rattle.std.specs.Prelude.{◌≡◌, ◌≤◌, ◌++◌, ◌∷◌, [], IfOk, replicate};
+ghost use Rattle.std.specs.Prelude.{◌≡◌, ◌++◌, ◌∷◌, [], IfOk, replicate};
 ghost use Rattle.srr_entry.specs.declared.entry.Entry.TheVariants.{Ended, Sent};
 ghost use Rattle.bench_replay.specs.Logs.{log_of, receives, took};
 

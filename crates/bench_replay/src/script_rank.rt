@@ -1,6 +1,6 @@
 //! A rank of the script.
 ghost use Rattle.std.specs.Prelude.{◌≡◌, ◌<◌, ◌++◌, ◌∷◌, [], IfOk, OnErr, OnOk, false, true};
-ghost use Rattle.bench_replay.specs.Script.{call_at, calls_of, is_stopped, receive_at};
+ghost use Rattle.bench_replay.specs.Script.{call_at, calls_of, is_stopped};
 
 use crate::script::Script;
 use mpi_call::call::{Call, Source, Tag, TakeMode};

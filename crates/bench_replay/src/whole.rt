@@ -1,5 +1,5 @@
 //! The replay of the script.
-ghost use Rattle.std.specs.Prelude.{◌≡◌, ◌≤◌, [], None, IfOk};
+ghost use Rattle.std.specs.Prelude.{◌≤◌, [], None, IfOk};
 ghost use Rattle.srr_replay.specs.Rounds.{IsReplayable, RunAll};
 ghost use Rattle.replay_model.specs.Stands.{IsReplayed};
 ghost use Rattle.bench_replay.specs.Logs.{log_of};

@@ -1,6 +1,6 @@
 //! The evaluation of statements.
 ghost use Rattle.std.specs.Prelude.{◌≡◌, ◌≤◌, ◌<◌, OnOk, map, option_copied, option_map};
-ghost use Rattle.c_program.specs.Meaning.{act, act_parts, act_part, call_at, declare_variable, declare_all, for_start, for_update, invoke, loop, loop_after, return, right, simple, started};
+ghost use Rattle.c_program.specs.Meaning.{act, act_parts, act_part, declare_variable, declare_all, for_start, for_update, invoke, loop, loop_after, return, right, simple, started};
 ghost use Rattle.c_program.specs.View.{pure_call, pure_expr, pure_item, pure_part, pure_parts, pure_place, pure_right, pure_simple, pure_start, pure_stmt};
 ghost use Rattle.c_eval.specs.Evaluated.{Evaluated, EvaluatesTo, Passes};
 ghost use Rattle.c_eval.specs.inside.Leaving.{Leaves};

@@ -1,5 +1,5 @@
 //! MPI calls over the replies that are left.
-ghost use Rattle.std.specs.Prelude.{◌≡◌, ◌<◌, ◌≤◌, OnOk, length};
+ghost use Rattle.std.specs.Prelude.{◌<◌, ◌≤◌, OnOk, length};
 ghost use Rattle.c_program.specs.Performing.{Onward, perform};
 ghost use Rattle.c_program.specs.View.{pure_mpi};
 ghost use Rattle.c_run_cells.specs.Parts.{mpi};

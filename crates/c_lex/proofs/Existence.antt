@@ -1,15 +1,15 @@
 -- Each text has tokens or a first fault.
 use Rattle.std.proofs.Common.{◌≡◌, ◌≢◌, ◌⊎◌, inl, inr, ◌<◌, ◌≤◌, ◌+◌, ◌-◌, ◌*◌, ◌==◌, ◌||◌, cond, ℕ, zero, suc, Bool, true, false, List, [], ◌∷◌, length, slice_index, refl, sym, ap, ◌∙◌, subst, arith}
-use Rattle.std.specs.Prelude.{slice_range, nat_le, nat_lt, if◌then◌else◌, codes, take, count_by}
+use Rattle.std.specs.Prelude.{slice_range, nat_le, if◌then◌else◌, codes, take, count_by}
 use Rattle.std.specs.Char.{digit_value}
 use Rattle.std.specs.Str.{bytes_eq}
 use Rattle.std.specs.Str.Parse.{AllDigits}
 use Rattle.std.proofs.lemmas.Bool.{cases_Bool, cases_order, eq-eqb, eqb-true, le-leb, leb-true, ltb-true, false_from_ne_true}
 use Rattle.std.proofs.lemmas.Slice.Eq.{bytes_eq-Decides}
 use Rattle.c_lex.specs.declared.limits.TheConstants.{GREATEST_LITERAL}
-use Rattle.c_lex.specs.Bytes.{IsStretch, is_in_class, is_space, is_letter, is_digit}
+use Rattle.c_lex.specs.Bytes.{IsStretch, is_in_class}
 use Rattle.c_lex.specs.Marks.{mark_length}
-use Rattle.c_lex.specs.Openings.{begins_line, opening, opening_of}
+use Rattle.c_lex.specs.Openings.{opening}
 use Rattle.c_lex.specs.Literals.{IsLiteral, base, digits_of, literal_value}
 use Rattle.c_lex.specs.Words.{is_left_out}
 use Rattle.c_lex.specs.Comments.{closes, IsFirstClose, NeverCloses}
@@ -17,14 +17,13 @@ use Rattle.c_lex.specs.Texts.{Inside, ends, goes_on, ends_line, character_length
 use Rattle.c_lex.specs.Steps as steps
 use Rattle.c_lex.specs.Steps.{OpeningGivesStep, IsLexicalStep, EndsWithin}
 use Rattle.c_lex.specs.Readings as readings
-use Rattle.c_lex.specs.Readings.{LexicalReading, Tokens, FirstFault, ReadsTokens, AreTokens, IsFirstLexicalFault, with_token, token_at, stays_on_define}
+use Rattle.c_lex.specs.Readings.{LexicalReading, Tokens, FirstFault, ReadsTokens, AreTokens, IsFirstLexicalFault, with_token, token_at}
 use Rattle.c_lex.specs.Places.{IsLineBegin, IsPlaceOf}
 use Rattle.c_lex.specs.declared.bytes.ByteClass.{ByteClass}
 use Rattle.c_lex.specs.declared.bytes.ByteClass.TheVariants.{Space, InWord, InLine, Printable}
 use Rattle.c_lex.specs.declared.opening.Opening.{Opening}
 use Rattle.c_lex.specs.declared.opening.Opening.TheVariants as opens
 use Rattle.c_lex.specs.declared.token.Token.{Token}
-use Rattle.c_lex.specs.declared.token.TokenKind.{TokenKind}
 use Rattle.c_lex.specs.declared.token.TokenKind.TheVariants as kinds
 use Rattle.c_lex.specs.declared.fault.SourceFault.{SourceFault}
 use Rattle.c_lex.specs.declared.fault.Why.{Why}

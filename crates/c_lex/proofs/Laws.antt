@@ -11,7 +11,7 @@ use Rattle.c_lex.specs.Texts.{Inside, ends, goes_on, IsStringLiteral, IsBadInsid
 use Rattle.c_lex.specs.Steps as steps
 use Rattle.c_lex.specs.Steps.{OpeningGivesStep, IsLexicalStep}
 use Rattle.c_lex.specs.Readings as readings
-use Rattle.c_lex.specs.Readings.{LexicalReading, Tokens, FirstFault, ReadsTokens, with_token, token_at, stays_on_define, IsFirstLexicalFault}
+use Rattle.c_lex.specs.Readings.{LexicalReading, Tokens, FirstFault, ReadsTokens, with_token, stays_on_define, IsFirstLexicalFault}
 use Rattle.c_lex.specs.declared.bytes.ByteClass.{ByteClass}
 use Rattle.c_lex.specs.declared.bytes.ByteClass.TheVariants.{InWord, InLine, Printable}
 use Rattle.c_lex.specs.declared.opening.Opening.{Opening}

@@ -1,5 +1,5 @@
 //! Names that stand without a declaration.
-ghost use Rattle.std.specs.Prelude.{◌≡◌, List, ℕ, map};
+ghost use Rattle.std.specs.Prelude.{◌≡◌, map};
 ghost use Rattle.c_names.specs.Predefined.{predefined_in, predefined};
 
 use crate::function::MpiFunction;

@@ -1,11 +1,11 @@
 //! The readers of declarations.
-ghost use Rattle.std.specs.Prelude.{◌≡◌, ◌<◌, ◌-◌, true, option_map};
+ghost use Rattle.std.specs.Prelude.{◌<◌, ◌-◌, true, option_map};
 ghost use Rattle.c_grammar.specs.Tree as t;
 ghost use Rattle.c_grammar.specs.StmtView.{declaration_view, initial_view, item_view, part_view};
 ghost use Rattle.c_grammar.specs.Symbols.{is};
 ghost use Rattle.c_grammar.specs.declared.terminal.Symbol.TheVariants as w;
 ghost use Rattle.c_grammar.specs.Reading.{expr_at, maybe};
-ghost use Rattle.c_grammar.specs.StmtReading.{read_declaration, read_initial, initial_tail, read_declarator};
+ghost use Rattle.c_grammar.specs.StmtReading.{read_declaration, read_initial, read_declarator};
 ghost use Rattle.c_parse.specs.inside.Gives.{AgreesWithReading};
 ghost use Rattle.c_parse.specs.inside.Declarations.{declared_of};
 

@@ -1,5 +1,5 @@
 //! The readers of expressions and places.
-ghost use Rattle.std.specs.Prelude.{◌≡◌, ◌==◌, ◌<◌, ◌≤◌, ◌-◌, true, length, map, IfOk};
+ghost use Rattle.std.specs.Prelude.{◌≡◌, ◌==◌, ◌<◌, ◌-◌, true, map, IfOk};
 ghost use Rattle.c_grammar.specs.Tree as t;
 ghost use Rattle.c_grammar.specs.declared.limits.TheConstants.{CONDITIONAL_LEVEL};
 ghost use Rattle.c_grammar.specs.View.{piece, place_view, view};

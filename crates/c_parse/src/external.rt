@@ -1,5 +1,5 @@
 //! The readers of defines, functions and whole programs.
-ghost use Rattle.std.specs.Prelude.{◌≡◌, [], Option, Some, None, true, length, map};
+ghost use Rattle.std.specs.Prelude.{◌≡◌, [], true, map};
 ghost use Rattle.c_grammar.specs.StmtView.{head_view, parameter_view, parameters_view, external_view, tree_view, value_view};
 ghost use Rattle.c_grammar.specs.StmtGrammar.{are_named, has, all_named, name_of_parameter};
 ghost use Rattle.c_grammar.specs.Symbols.{is};

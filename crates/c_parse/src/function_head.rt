@@ -1,5 +1,5 @@
 //! The readers of the heads of functions.
-ghost use Rattle.std.specs.Prelude.{◌≡◌, ◌<◌, ◌-◌, true, option_map};
+ghost use Rattle.std.specs.Prelude.{◌<◌, ◌-◌, true, option_map};
 ghost use Rattle.c_grammar.specs.Tree as t;
 ghost use Rattle.c_grammar.specs.View.{view};
 ghost use Rattle.c_grammar.specs.StmtView.{head_view, parameter_view, parameters_view};

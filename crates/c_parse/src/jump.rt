@@ -1,5 +1,5 @@
 //! The readers of jump statements: `break`, `continue` and `return`.
-ghost use Rattle.std.specs.Prelude.{◌≡◌, ◌<◌, ◌-◌, true, option_map};
+ghost use Rattle.std.specs.Prelude.{◌<◌, ◌-◌, true, option_map};
 ghost use Rattle.c_grammar.specs.StmtView.{right_view, stmt_view};
 ghost use Rattle.c_grammar.specs.Symbols.{isnt};
 ghost use Rattle.c_grammar.specs.declared.terminal.Symbol.TheVariants as w;

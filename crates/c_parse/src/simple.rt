@@ -1,5 +1,5 @@
 //! The readers of simple statements: assignments, `++`, `--` and calls.
-ghost use Rattle.std.specs.Prelude.{◌≡◌, ◌<◌, ◌-◌, true};
+ghost use Rattle.std.specs.Prelude.{◌<◌, ◌-◌, true};
 ghost use Rattle.c_grammar.specs.View.{place_view};
 ghost use Rattle.c_grammar.specs.StmtView.{simple_view, stmt_view};
 ghost use Rattle.c_grammar.specs.Reading.{expr_at};

@@ -1,5 +1,5 @@
 //! The readers of statements.
-ghost use Rattle.std.specs.Prelude.{◌≡◌, ◌<◌, ◌-◌, true, map};
+ghost use Rattle.std.specs.Prelude.{◌<◌, ◌-◌, true, map};
 ghost use Rattle.c_grammar.specs.Tree as t;
 ghost use Rattle.c_grammar.specs.View.{view};
 ghost use Rattle.c_grammar.specs.StmtView.{part_view, stmt_view};

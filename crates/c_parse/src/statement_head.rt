@@ -1,5 +1,5 @@
 //! The readers of what is before or after the inner statement of a statement.
-ghost use Rattle.std.specs.Prelude.{◌≡◌, ◌<◌, ◌-◌, true, option_map};
+ghost use Rattle.std.specs.Prelude.{◌<◌, ◌-◌, true, option_map};
 ghost use Rattle.c_grammar.specs.View.{view};
 ghost use Rattle.c_grammar.specs.StmtView.{simple_view, start_view};
 ghost use Rattle.c_grammar.specs.Symbols.{isnt};

@@ -1,5 +1,5 @@
 //! What tokens are to the grammar.
-ghost use Rattle.std.specs.Prelude.{◌≡◌, IfOk, map, length, slice_range, ◌+◌, ◌≤◌};
+ghost use Rattle.std.specs.Prelude.{◌≡◌, IfOk, map, length, ◌+◌, ◌≤◌};
 ghost use Rattle.c_lex.specs.Readings.{AreSlices};
 ghost use Rattle.c_parse.specs.Terminals.{terminal_of, spellings, symbol_among, symbol_of};
 

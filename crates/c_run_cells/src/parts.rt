@@ -1,5 +1,5 @@
 //! Parts of evaluation in which no function of the text is called and nothing is asked.
-ghost use Rattle.std.specs.Prelude.{◌≡◌, ◌≤◌, ◌<◌, List, IfSome, IfNone, OnOk, map, slice_get, true};
+ghost use Rattle.std.specs.Prelude.{◌≡◌, ◌<◌, List, IfSome, IfNone, OnOk, map, slice_get, true};
 ghost use Rattle.c_program.specs.declared.state.Passed.{Passed};
 ghost use Rattle.c_program.specs.Meaning.{has_room, length_or_one, parameter_cells, passed_all, print as print_of, put_values, step, trying, with_parameters};
 ghost use Rattle.c_program.specs.Performing.{Onward};

@@ -9,7 +9,7 @@ use Rattle.mpi_call.specs.declared.reply.Reply.TheVariants.{Done, Took, NotYet, 
 use Rattle.c_program.specs.Courses.{trapped}
 use Rattle.c_program.specs.declared.effect.Into.{Into}
 use Rattle.c_program.specs.declared.effect.Into.TheVariants.{Nowhere, Cells as IntoCells, Handle}
-use Rattle.c_program.specs.Performing.{Onward, begun, completed, or_trap, probed, put_result, put_status, has_cells_for}
+use Rattle.c_program.specs.Performing.{Onward, completed, or_trap, probed, put_result, put_status, has_cells_for}
 use Rattle.c_program.specs.State.{State, put, put_all, put_some}
 use Rattle.c_program.specs.declared.state.Begun.{Begun}
 use Rattle.c_run_replies.specs.Left.{IsChanged}

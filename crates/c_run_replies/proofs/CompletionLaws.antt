@@ -1,6 +1,5 @@
 -- Steps of the loops over handles and items.
-use Rattle.std.proofs.Common.{◌≡◌, ℕ, zero, suc, ◌+◌, ◌<◌, ◌≤◌, ◌==◌, ℤ, pos, Bool, true, false, List, [], ◌∷◌, Option, Some, None, if◌then◌else◌, option_map, length, drop, drop-cons, add-one, eqb-true, get_or, refl, sym, ◌∙◌, ap, arith}
-use Rattle.mpi_call.specs.declared.call.Call.TheVariants.{Take}
+use Rattle.std.proofs.Common.{◌≡◌, ℕ, zero, suc, ◌+◌, ◌<◌, ◌≤◌, ℤ, pos, Bool, true, false, List, [], ◌∷◌, Option, Some, None, if◌then◌else◌, option_map, length, drop, drop-cons, add-one, get_or, refl, sym, ◌∙◌, ap, arith}
 use Rattle.mpi_call.specs.declared.call.Fault.TheVariants.{OutOfBounds}
 use Rattle.mpi_call.specs.declared.call.TakeMode.{TakeMode}
 use Rattle.mpi_call.specs.declared.call.TakeMode.TheVariants.{All, Any, Several, TestAll, TestAny, TestSeveral}
@@ -9,9 +8,9 @@ use Rattle.mpi_call.specs.declared.reply.Item.{Item}
 use Rattle.mpi_call.specs.declared.reply.Reply.TheVariants.{Took}
 use Rattle.c_program.specs.declared.effect.AnswerCells.{AnswerCells}
 use Rattle.c_program.specs.Cells.{Cells}
-use Rattle.c_program.specs.Courses.{Asks, trapped}
+use Rattle.c_program.specs.Courses.{trapped}
 use Rattle.run_model.specs.Allowed.{takes_all}
-use Rattle.c_program.specs.Performing.{Active, Onward, active_at, active_or_none, after_take, begun_at, completing, completing_of, empties, first_place, handle_places, item_completed, none_active, or_trap, put_empties, put_empty, put_items, put_only_empty, put_places, starts_in, status_at, status_place, with_answer, with_communicators}
+use Rattle.c_program.specs.Performing.{Active, Onward, active_at, active_or_none, after_take, begun_at, completing_of, empties, first_place, handle_places, item_completed, none_active, or_trap, put_empties, put_empty, put_items, put_only_empty, put_places, status_at, status_place, with_answer, with_communicators}
 use Rattle.c_program.specs.State.{State, any_source, ints_in_cells, null, put, undefined, values_from}
 use Rattle.c_run_replies.specs.Left.{IsChanged, item_put}
 use Rattle.c_run_replies.proofs.CellLaws.{done-goes, fails-trapped, left-completed, left-is, left-put_all, left-put_some, left-put_status}

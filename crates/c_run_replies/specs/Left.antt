@@ -5,10 +5,7 @@ use Rattle.c_program.specs.Courses.{trapped}
 use Rattle.c_program.specs.Meaning.{Passing}
 use Rattle.mpi_call.specs.declared.call.Source.{Source}
 use Rattle.mpi_call.specs.declared.call.Source.TheVariants.{Null}
-use Rattle.mpi_call.specs.declared.call.TakeMode.{TakeMode}
 use Rattle.mpi_call.specs.declared.reply.Got.{Got}
-use Rattle.c_program.specs.declared.effect.AnswerCells.{AnswerCells}
-use Rattle.c_program.specs.Cells.{Cells}
 use Rattle.c_program.specs.Performing.{Active, Completing, item_completed}
 use Rattle.c_program.specs.State.{State, null, put}
 

@@ -1,5 +1,5 @@
 -- What a rank asks, and what follows on the reply.
-use Rattle.std.specs.Prelude.{ℕ, pos}
+use Rattle.std.specs.Prelude.{pos}
 use Rattle.mpi_call.specs.declared.call.Call.{Call}
 use Rattle.mpi_call.specs.declared.call.Call.TheVariants.{Take, Peek, Abort as AbortCall, Trap as TrapCall, End as EndCall}
 use Rattle.mpi_call.specs.declared.reply.Reply.{Reply}

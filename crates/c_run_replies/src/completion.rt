@@ -1,7 +1,7 @@
 //! Completion calls: the starts that handles name, and what their completion changes.
-ghost use Rattle.std.specs.Prelude.{◌≡◌, ◌≤◌, ◌<◌, ◌^◌, ◌*◌, [], IfOk, List, OnOk, length, negsuc, pos};
+ghost use Rattle.std.specs.Prelude.{◌≡◌, ◌≤◌, ◌<◌, ◌^◌, ◌*◌, [], IfOk, OnOk, length, pos};
 ghost use Rattle.std.specs.Option.{option_to_list};
-ghost use Rattle.c_program.specs.Performing.{active_at, active_from, active_in, active_or_none, after_take, completing_of, empties, first_place, handle_places, none_active, put_empties, put_items, put_only_empty, put_places, starts_in, status_at, status_place, with_answer, with_communicators};
+ghost use Rattle.c_program.specs.Performing.{active_at, active_from, active_in, active_or_none, after_take, completing_of, empties, first_place, handle_places, none_active, put_empties, put_items, put_only_empty, starts_in, status_at, status_place, with_answer, with_communicators};
 ghost use Rattle.run_model.specs.Allowed.{takes_all};
 ghost use Rattle.mpi_call.specs.declared.reply.Reply.TheVariants.{Took};
 ghost use Rattle.c_program.specs.State.{ints_in_cells};

@@ -4,7 +4,7 @@ ghost use Rattle.run_model.specs.Program.{ends};
 ghost use Rattle.c_program.specs.Courses.{after_one_reply};
 ghost use Rattle.mpi_call.specs.declared.reply.Reply.{Reply};
 ghost use Rattle.c_program.specs.declared.effect.Rank.{Rank};
-ghost use Rattle.c_program.specs.Performing.{Onward, begun, first_got, reply_items, with_communicators, number_of_next, put_message, put_result, receiving, sent, begun_by, taking_message, taking_result};
+ghost use Rattle.c_program.specs.Performing.{Onward, begun, first_got, reply_items, with_communicators, number_of_next, put_message, put_result, receiving, sent, begun_by, taking_result};
 ghost use Rattle.c_program.specs.State.{State, put_some};
 ghost use Rattle.c_run_replies.specs.Questions.{asks, question_call, reached, replied};
 ghost use Rattle.c_run_replies.specs.declared.question.Question.TheVariants.{Receives};

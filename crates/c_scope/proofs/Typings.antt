@@ -1,9 +1,9 @@
 -- The faults and the typed form of a whole, from those of its parts.
-use Rattle.std.proofs.Common.{◌≡◌, ◌++◌, Bool, true, false, List, [], ◌∷◌, Option, Some, None, option_map, refl}
+use Rattle.std.proofs.Common.{◌≡◌, ◌++◌, Bool, true, false, List, [], ◌∷◌, option_map, refl}
 use Rattle.c_lex.specs.declared.fault.Why.{Why}
 use Rattle.c_grammar.specs.declared.terminal.Span.{Span}
 use Rattle.c_scope.specs.Least.{fault_unless}
-use Rattle.c_scope.specs.Typing.{Typing, typed, faulty, faults_of, onto, both, behind, also, unless_any}
+use Rattle.c_scope.specs.Typing.{Typing, typed, faulty, faults_of, onto, both, also, unless_any}
 use Rattle.c_scope.specs.Walks.{are_none, typed_form, if_both, if_so}
 use Rattle.c_scope.specs.declared.fault.TypingFault.{TypingFault}
 

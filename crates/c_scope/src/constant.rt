@@ -1,5 +1,5 @@
 //! Expressions of numbers, defines and predefined ints.
-ghost use Rattle.std.specs.Prelude.{◌≡◌, ℤ, Option, map, pos, zero, suc};
+ghost use Rattle.std.specs.Prelude.{◌≡◌, Option, map};
 ghost use Rattle.c_grammar.specs.View.{links_from, piece, place_view, view};
 ghost use Rattle.c_scope.specs.Constants.{chosen_constant, chosen_value, constant_meant, constant_of, decided, joined_constants, joined_values, length_faults, length_from, length_of, links_constant, unknown_name_faults, names_in_links, names_in_place, operator_of, or_no_value, over, place_constant, unary_of, unary_constant, constant_faults};
 ghost use Rattle.c_scope.specs.Least.{least_fault_from};

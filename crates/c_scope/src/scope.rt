@@ -1,12 +1,12 @@
 //! Scopes: what names stand for at a place of a program.
-ghost use Rattle.std.specs.Prelude.{◌≡◌, IfOk, OnOk, length, map, option_map, slice_get};
+ghost use Rattle.std.specs.Prelude.{◌≡◌, IfOk, OnOk, map, option_map, slice_get};
 ghost use Rattle.std.specs.Str.{bytes_eq};
 ghost use Rattle.c_grammar.specs.StmtView.{head_view};
 ghost use Rattle.c_scope.specs.Least.{least_fault_from};
 ghost use Rattle.c_scope.specs.Literals.{literal_at};
 ghost use Rattle.c_scope.specs.Signatures.{function_entries, signature_of};
 ghost use Rattle.c_scope.specs.Variables.{variable};
-ghost use Rattle.c_scope.specs.Scopes.{closed, token_bytes, declare, declared_meaning, found, is_taken, meaning, meaning_of, name_faults, opened, twice_faults};
+ghost use Rattle.c_scope.specs.Scopes.{closed, token_bytes, declare, declared_meaning, found, meaning, meaning_of, name_faults, opened, twice_faults};
 
 use crate::declarations::Declarations;
 use crate::fault::{TypingFault, note_at, note_unless};

@@ -1,6 +1,6 @@
 //! Typing of arguments, and of calls of the text's functions, in one walk.
 ghost use Rattle.std.specs.Prelude.{◌≡◌, IfOk, map, option_map, slice_get};
-ghost use Rattle.c_grammar.specs.StmtView.{argument_view, comma_list_view, head_view, parameter_view, parameters_view};
+ghost use Rattle.c_grammar.specs.StmtView.{argument_view, comma_list_view, head_view, parameter_view};
 ghost use Rattle.c_grammar.specs.Tree as tree;
 ghost use Rattle.c_grammar.specs.View.{links_from, piece, place_view, view};
 ghost use Rattle.c_program.specs.Tree as pure;

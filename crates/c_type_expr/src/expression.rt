@@ -3,7 +3,7 @@ ghost use Rattle.std.specs.Prelude.{◌≡◌, map, option_map};
 ghost use Rattle.c_grammar.specs.Tree as tree;
 ghost use Rattle.c_grammar.specs.View.{links_from, piece, place_view, view};
 ghost use Rattle.c_program.specs.Tree as pure;
-ghost use Rattle.c_program.specs.View.{pure_expr, pure_link, pure_links, pure_place, typed_links};
+ghost use Rattle.c_program.specs.View.{pure_expr, pure_link, pure_links, pure_place};
 ghost use Rattle.c_scope.specs.Kinds.{kind_fits, kind_faults};
 ghost use Rattle.c_scope.specs.Least.{least_fault_from};
 ghost use Rattle.c_scope.specs.Scopes.{meaning};

@@ -5,12 +5,10 @@ ghost use Rattle.c_grammar.specs.Tree as t;
 ghost use Rattle.c_grammar.specs.declared.terminal.Span.{Span};
 ghost use Rattle.c_lex.specs.declared.fault.Why.TheVariants.{WrongCount};
 ghost use Rattle.c_names.specs.declared.kind.VariableKind.TheVariants.{Status};
-ghost use Rattle.c_names.specs.declared.predefined.Predefined.TheVariants as p;
 ghost use Rattle.c_program.specs.View.{pure_buffer, pure_expr, pure_incoming, pure_mpi, pure_outgoing, pure_reduction, pure_reference, pure_several};
 ghost use Rattle.c_scope.specs.Scopes.{meaning};
 ghost use Rattle.c_scope.specs.Typing.{onto, refused};
 ghost use Rattle.c_scope.specs.Walks.{Gives, Walked};
-ghost use Rattle.c_scope.specs.declared.meaning.Meaning.TheVariants as m;
 ghost use Rattle.c_type_expr.specs.ExprTyping.{misfit_typing, reference_typing};
 ghost use Rattle.c_type_expr.specs.MpiTyping.{argc_meant, argc_typing, argv_meant, argv_typing, buffer_typing, comm_typing, datatype_meant, datatype_typing, incoming_typing, ints_typing, is_null, is_null_meant, newcomm_typing, null_meant, null_typing, number_typing, op_meant, op_typing, outgoing_typing, reduction_typing, requests_typing, several_typing, status_typing, statuses_typing};
 

@@ -1,5 +1,5 @@
 -- Each text has one program or one first fault.
-use Rattle.std.proofs.Common.{◌≡◌, ◌⊎◌, inl, inr, ℕ, min, List, [], ◌∷◌, Some, None, length, refl, sym, subst, ap, ◌∙◌}
+use Rattle.std.proofs.Common.{◌≡◌, ◌⊎◌, inl, inr, ℕ, min, List, ◌∷◌, Some, None, length, refl, sym, subst, ap, ◌∙◌}
 use Rattle.c_lex.specs.NoMemory.{no_memory_fault}
 use Rattle.c_lex.specs.Places.{IsPlaceOf}
 use Rattle.c_lex.specs.declared.fault.SourceFault.{SourceFault}

@@ -14,11 +14,10 @@ use Rattle.c_program.specs.declared.program.ParameterKind.{ParameterKind}
 use Rattle.c_program.specs.declared.program.TypedParameter.{TypedParameter}
 use Rattle.c_scope.specs.Least.{least_fault_from}
 use Rattle.c_scope.specs.Scopes.{Env, token_bytes, twice_faults}
-use Rattle.c_scope.specs.Typing.{Typing, typed, also, both}
+use Rattle.c_scope.specs.Typing.{Typing, typed}
 use Rattle.c_scope.specs.Walks.{Gives, kept_form, merged, unless_fault, unless_faulty}
 use Rattle.c_scope.specs.declared.fault.TypingFault.{TypingFault}
 use Rattle.c_scope.proofs.Gives.{gives_form}
-use Rattle.c_scope.proofs.Joined.{gives_own}
 use Rattle.c_scope.proofs.Least.{least_from_append}
 use Rattle.c_scope.proofs.Lists.{drop_at, drop_past}
 use Rattle.c_scope.proofs.Walked.{both as both_faults}

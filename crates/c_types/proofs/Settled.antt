@@ -1,5 +1,5 @@
 -- What is found of two parts, and of a whole: the typed form, or the first fault.
-use Rattle.std.proofs.Common.{◌≡◌, ℕ, List, length, Option, Some, None, Result, Ok, Err, refl, sym, ap, subst, ◌∙◌, []}
+use Rattle.std.proofs.Common.{◌≡◌, ℕ, List, length, Option, Some, None, Result, Ok, Err, sym, ap, subst, ◌∙◌, []}
 use Rattle.std.specs.List.{position}
 use Rattle.std.specs.Result.{result_err}
 use Rattle.c_lex.specs.declared.fault.Why.TheVariants.{NoMain}

@@ -1,6 +1,6 @@
 //! Typing of parameters.
 ghost use Rattle.std.specs.Prelude.{◌≡◌, IfOk, OnOk};
-ghost use Rattle.c_grammar.specs.StmtView.{comma_list_view, head_view, parameter_view, parameters_view};
+ghost use Rattle.c_grammar.specs.StmtView.{comma_list_view, parameter_view, parameters_view};
 ghost use Rattle.c_scope.specs.Least.{least_fault_from};
 ghost use Rattle.c_scope.specs.Signatures.{listed, parameters_listed};
 ghost use Rattle.c_scope.specs.Walks.{Gives, Walked};

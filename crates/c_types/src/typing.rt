@@ -17,7 +17,7 @@ use c_lex::{SourceFault, fault_at, tokens};
 use c_parse::parse;
 use c_program::program::CProgram;
 use c_scope::fault::TypingFault;
-use std::alloc::{AllocError, Global};
+use std::alloc::Global;
 
 /// A fault with its line and column.
 fn refused(text: &[u8], fault: TypingFault) -> SourceFault

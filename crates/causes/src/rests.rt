@@ -1,9 +1,7 @@
 //! What the reply to an event rests on.
-ghost use Rattle.std.specs.Prelude.{◌≡◌, ◌++◌, ℕ, List, IfOk, OnOk, option_map, slice_get};
+ghost use Rattle.std.specs.Prelude.{◌≡◌, ◌++◌, List, OnOk, slice_get};
 ghost use Rattle.std.specs.Option.{option_to_list};
 ghost use Rattle.mpi_call.specs.Needs.{needs};
-ghost use Rattle.run_model.specs.Communicators.{members_for_rank};
-ghost use Rattle.run_model.specs.Views.{view_of};
 ghost use Rattle.run_model.specs.declared.event.Event.{Event as EventSpec};
 ghost use Rattle.causes.specs.Beside.{AreTables};
 ghost use Rattle.causes.specs.Positions.{mates_in};
@@ -16,7 +14,7 @@ use mpi_call::lists::Ranks;
 use mpi_call::needs::needs;
 use mpi_call::reply::{Got, Item, Reply};
 use run_model::event::Event;
-use std::alloc::{AllocError, Global};
+use std::alloc::AllocError;
 
 /// Adds the Enter of a member, if it is needed.
 fn push_enter(

@@ -1,5 +1,5 @@
 //! The Enters of one instance.
-ghost use Rattle.std.specs.Prelude.{◌≡◌, ◌<◌, ◌++◌, ◌∷◌, [], ℕ, length, map, slice_index, IfErr, IfOk, IsTrue, OnErr, OnOk};
+ghost use Rattle.std.specs.Prelude.{◌≡◌, ◌<◌, ◌++◌, ◌∷◌, [], ℕ, map, slice_index, IfErr, IfOk, IsTrue, OnErr, OnOk};
 ghost use Rattle.mpi_call.specs.Calls.{ints_of, is_enter};
 ghost use Rattle.collectives.specs.Entrants.{first_against, ints_at, ints_by, enter_place, without_rank, AllAgree};
 

@@ -1,6 +1,6 @@
 //! The instances of each communicator, by its number.
 ghost use Rattle.std.specs.Map.{lookup};
-ghost use Rattle.std.specs.Prelude.{◌≡◌, ◌-◌, ◌<◌, [], ℕ, false, nat_eq, option_map, IfOk, IsOk, IsTrue, OnErr, OnOk};
+ghost use Rattle.std.specs.Prelude.{◌≡◌, ◌-◌, ◌<◌, [], ℕ, nat_eq, option_map, IfOk, IsOk, IsTrue, OnErr};
 ghost use Rattle.mpi_call.specs.Calls.{is_enter};
 ghost use Rattle.collectives.specs.InstanceTable.{instances_in, HaveSameInstances, HaveSameBeside};
 ghost use Rattle.collectives.specs.Instances.{instance_answer, enters_by, IsInstancesAfter, Loses};

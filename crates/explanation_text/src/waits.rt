@@ -1,13 +1,12 @@
 //! The waits text of a run.
-ghost use Rattle.std.specs.Prelude.{◌≡◌, ◌<◌, ◌++◌, ℕ, List, [], OnOk, IfOk, flat_map, if◌then◌else◌, length};
-ghost use Rattle.mpi_call.specs.Acceptance.{source_agrees};
+ghost use Rattle.std.specs.Prelude.{◌≡◌, ◌<◌, ◌++◌, ℕ, List, [], OnOk, IfOk, flat_map};
 ghost use Rattle.causes.specs.Clocks.{AreOfRanks};
 ghost use Rattle.run_model.specs.declared.event.Event.{Event};
 ghost use Rattle.run_model.specs.Allowed.{probe_of};
 ghost use Rattle.run_model.specs.Lists.{world};
 ghost use Rattle.run_model.specs.Views.{view_of};
 ghost use Rattle.wait_graph.specs.declared.difference.Difference.TheVariants.{Comm as ByComm, Source as BySource, Tag as ByTag};
-ghost use Rattle.wait_graph.specs.Opens.{differences, opens_to, difference_unless};
+ghost use Rattle.wait_graph.specs.Opens.{opens_to, difference_unless};
 ghost use Rattle.wait_graph.specs.Register.{IsRegister};
 ghost use Rattle.wait_graph.specs.Taken.{taken_last};
 ghost use Rattle.explanation_text.specs.WaitsTexts.{awaited_text, blocked_text, call_messages_text, cycle_text, difference_text, ended_text, from_ranks_text, awaited_ranks_text, graph_text, blocked_head_text, hopeless_ranks_text, hopeless_text, messages_text, open_text, start_text, stuck_text, taken_text, taken_text_from, taken_texts, wait_text, waiting_text, waits_text};

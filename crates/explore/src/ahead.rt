@@ -1,5 +1,5 @@
 //! States that were looked at before their turn came.
-ghost use Rattle.std.specs.Prelude.{◌≡◌, ◌++◌, ◌∷◌, ◌<◌, ◌^◌, [], OnOk, false, if◌then◌else◌, true};
+ghost use Rattle.std.specs.Prelude.{◌≡◌, ◌++◌, ◌∷◌, ◌<◌, [], OnOk, false, if◌then◌else◌, true};
 ghost use Rattle.mpi_call.specs.Lists.{IsIn};
 ghost use Rattle.explore.specs.QuietFirst.{is_hindered};
 

@@ -6,7 +6,7 @@ ghost use Rattle.run_model.specs.declared.event.Event.{Event};
 ghost use Rattle.run_model.specs.Due.{halted};
 ghost use Rattle.picked_runs.specs.declared.turn.Pick.TheVariants.{First};
 ghost use Rattle.picked_runs.specs.Picked.{IsPicked};
-ghost use Rattle.explore.specs.Courses.{IsAhead, IsCourse, IsSetting};
+ghost use Rattle.explore.specs.Courses.{IsAhead, IsCourse};
 
 use crate::course::{SearchCourse, Setting, answer};
 use mpi_call::call;

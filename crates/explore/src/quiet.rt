@@ -34,7 +34,6 @@ use mpi_machine::size::size_of;
 use picked_runs::turn::{Pick, Turn, Turns};
 use run_model::ending::Ending;
 use run_model::event::Event;
-use run_model::history::History;
 use run_model::program::{Program, RankRun, Want};
 use std::alloc::AllocError;
 

@@ -1,8 +1,7 @@
 //! The turns that can be made after a state: each is tried, and noted.
-ghost use Rattle.std.specs.Prelude.{◌≡◌, ◌<◌, ◌++◌, ◌∷◌, [], List, All, IfOk, MatchBool, None, OnOk, Some, if◌then◌else◌, length, true};
+ghost use Rattle.std.specs.Prelude.{◌≡◌, ◌<◌, ◌++◌, ◌∷◌, [], IfOk, MatchBool, None, OnOk, Some, if◌then◌else◌, length, true};
 ghost use Rattle.mpi_call.specs.Calls.{listed_by};
 ghost use Rattle.group_plan.specs.Plans.{number_of_ranks};
-ghost use Rattle.run_model.specs.declared.event.Event.{Event};
 ghost use Rattle.picked_runs.specs.declared.turn.Turn.{Turn};
 ghost use Rattle.picked_runs.specs.Picks.{looks};
 ghost use Rattle.explore.specs.Courses.{IsCourse, IsSetting};

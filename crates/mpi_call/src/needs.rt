@@ -1,7 +1,7 @@
 //! Which members a collective's result needs, and which Enters agree.
-ghost use Rattle.std.specs.Prelude.{◌≡◌, IsTrue, negsuc};
+ghost use Rattle.std.specs.Prelude.{◌≡◌, IsTrue};
 ghost use Rattle.mpi_call.specs.Calls.{is_enter};
-ghost use Rattle.mpi_call.specs.Needs.{agree, colour_in, is_root, kind_number, needs, op_number, same_op, same_root, undefined_colour};
+ghost use Rattle.mpi_call.specs.Needs.{agree, colour_in, is_root, needs};
 
 use crate::call::{Call, Kind};
 use crate::lists::{Ints, Ranks};

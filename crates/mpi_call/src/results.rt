@@ -1,5 +1,5 @@
 //! What a collective gives to each member.
-ghost use Rattle.std.specs.Prelude.{◌≡◌, ◌++◌, ◌+◌, ◌*◌, ◌≤◌, All, IfOk, IsFalse, IsTrue, OnErr, OnOk, flat_map, length};
+ghost use Rattle.std.specs.Prelude.{◌≡◌, ◌++◌, ◌+◌, ◌*◌, ◌≤◌, All, IfOk, IsFalse, IsTrue, OnOk, flat_map, length};
 ghost use Rattle.mpi_call.specs.Calls.{makes};
 ghost use Rattle.mpi_call.specs.Members.{is_member};
 ghost use Rattle.mpi_call.specs.Needs.{IsEnterOf};

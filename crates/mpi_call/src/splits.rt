@@ -1,5 +1,5 @@
 //! The members of the communicators that Split and Dup make.
-ghost use Rattle.std.specs.Prelude.{◌≡◌, ◌++◌, ◌∷◌, [], length, map, zip, IfOk, IsTrue, OnErr, OnOk};
+ghost use Rattle.std.specs.Prelude.{◌≡◌, ◌++◌, ◌∷◌, [], length, map, zip, IfOk, IsTrue, OnOk};
 ghost use Rattle.mpi_call.specs.Calls.{makes};
 ghost use Rattle.mpi_call.specs.inside.Candidates.{candidate_of};
 ghost use Rattle.mpi_call.specs.Made.{by_key, key_in, members_made, of_colour, split_into};

@@ -1,5 +1,5 @@
 //! The races of a run.
-ghost use Rattle.std.specs.Prelude.{◌≡◌, ◌<◌, ◌≤◌, ◌++◌, [], Err, IfOk, List, OnOk};
+ghost use Rattle.std.specs.Prelude.{◌≡◌, ◌<◌, ◌≤◌, ◌++◌, Err, IfOk, List, OnOk};
 ghost use Rattle.causes.specs.Clocks.{AreOfRanks};
 ghost use Rattle.msg_races.specs.declared.fault.RaceFault.TheVariants.{TooMany};
 ghost use Rattle.msg_races.specs.declared.receives.WildcardReceive.{WildcardReceive as ReceiveSpec};

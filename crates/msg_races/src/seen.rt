@@ -4,7 +4,6 @@ ghost use Rattle.std.specs.List.Sorted.{IsNonDecreasingBy};
 ghost use Rattle.causes.specs.Clocks.{AreOfRanks, comes_before};
 ghost use Rattle.msg_races.specs.Listing.{arrival_at, open_names, racing_below, racing_from, unless_taken};
 ghost use Rattle.msg_races.specs.inside.Seen.{IsSeenByRaces};
-ghost use Rattle.msg_races.specs.Ways.{AreSends};
 
 use crate::arrival::{self, Arrival, way_from};
 use crate::completions::Completions;

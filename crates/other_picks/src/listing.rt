@@ -1,5 +1,5 @@
 //! The other picks of a run.
-ghost use Rattle.std.specs.Prelude.{◌≡◌, ◌<◌, ◌^◌, ◌++◌, ◌∷◌, [], ℕ, IfOk, OnOk, List, if◌then◌else◌, map, filter, length, take};
+ghost use Rattle.std.specs.Prelude.{◌≡◌, ◌<◌, ◌^◌, ◌++◌, ◌∷◌, [], IfOk, OnOk, List, if◌then◌else◌, map, filter, length, take};
 ghost use Rattle.mpi_call.specs.declared.call.Call.TheVariants.{Post};
 ghost use Rattle.mpi_call.specs.declared.call.Source.TheVariants.{Any};
 ghost use Rattle.run_model.specs.declared.event.Event.{Event as EventSpec};

@@ -1,5 +1,5 @@
 -- The ranks of a block, and how far ranks reach.
-use Rattle.std.proofs.Common.{◌≡◌, ◌≤◌, ◌<◌, ◌+◌, ◌-◌, ◌∷◌, ◌==◌, ◌∙◌, ◌&&◌, Bool, List, [], ap, arith, drop, false, get_or, if◌then◌else◌, inl, inr, length, max, min, nat_le, nat_lt, refl, subst, suc, sym, take, true, zero, ℕ}
+use Rattle.std.proofs.Common.{◌≡◌, ◌≤◌, ◌<◌, ◌+◌, ◌-◌, ◌∷◌, ◌==◌, ◌∙◌, ◌&&◌, Bool, List, [], ap, arith, drop, false, get_or, if◌then◌else◌, inl, inr, length, max, min, nat_le, nat_lt, refl, suc, sym, take, true, zero, ℕ}
 use Rattle.std.proofs.Math.Seq.{take-length}
 use Rattle.std.proofs.lemmas.Bool.{and_from, and_parts, eq-eqb, eqb-true, le-leb, leb-true, lt-ltb, ltb-true, or_cases, or_left, or_right}
 use Rattle.mpi_call.specs.Members.{is_member}

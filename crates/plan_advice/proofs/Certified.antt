@@ -1,7 +1,7 @@
 -- What the tests of an advice find.
-use Rattle.std.proofs.Common.{◌≡◌, ◌≤◌, ◌<◌, ◌+◌, ◌-◌, ◌*◌, ◌^◌, ◌∷◌, ◌∙◌, ◌⊎◌, Bool, List, [], ap, arith, false, inl, inr, length, refl, subst, suc, sym, true, zero, ℕ}
+use Rattle.std.proofs.Common.{◌≡◌, ◌≤◌, ◌<◌, ◌+◌, ◌-◌, ◌*◌, ◌^◌, ◌∷◌, ◌⊎◌, Bool, List, [], ap, arith, false, inl, inr, length, refl, subst, sym, true, ℕ}
 use Rattle.std.specs.Prelude.{MatchBool, slice_index}
-use Rattle.std.proofs.lemmas.Bool.{cases_lt, eqb-true, eqb-false, or_cases, or_parts}
+use Rattle.std.proofs.lemmas.Bool.{cases_lt}
 use Rattle.run_model.proofs.Views.{test_cases}
 use Rattle.plan_advice.specs.Cuttings.{AreEnds, IsBlock, IsCertificate, IsReached, cost_from}
 use Rattle.plan_advice.specs.inside.Ways.{IsBound, cost_by}

@@ -1,14 +1,14 @@
 -- A program whose ranks end at once: a history without events is a run of it.
-use Rattle.std.proofs.Common.{◌≡◌, ◌<◌, ◌≤◌, ◌∷◌, ◌∙◌, List, None, Option, Some, [], false, refl, subst, sym, true, ℕ}
+use Rattle.std.proofs.Common.{◌≡◌, ◌<◌, ◌≤◌, ◌∷◌, List, None, Option, Some, [], refl, subst, true, ℕ}
 use Rattle.std.proofs.lemmas.Bool.{or_left}
 use Rattle.std.specs.List.{list_any}
 use Rattle.mpi_call.specs.declared.call.Call.{Call}
 use Rattle.mpi_call.specs.declared.call.Call.TheVariants.{End}
 use Rattle.mpi_call.specs.declared.reply.Reply.{Reply}
 use Rattle.mpi_call.specs.declared.reply.Reply.TheVariants.{Done, NotYet, Peeked, Stopped, Took}
-use Rattle.run_model.specs.Program.{AsksInBounds, EndsExactly, EntersInForm, IsCallInBounds, IsInForm, IsViewOf, ends}
+use Rattle.run_model.specs.Program.{AsksInBounds, EndsExactly, EntersInForm, IsCallInBounds, IsInForm, ends}
 use Rattle.run_model.specs.Shape.{has_shape}
-use Rattle.run_model.specs.Views.{Next, View, replies_in}
+use Rattle.run_model.specs.Views.{Next}
 use Rattle.plan_advice.specs.Costs.{IsRunOfAProgram}
 
 abbrev ends_at_once : List Reply → Option Call

@@ -1,5 +1,5 @@
 -- How far a collective's result reaches.
-use Rattle.std.proofs.Common.{◌≡◌, ◌≤◌, ◌∷◌, ◌∙◌, List, None, Option, Some, [], ap, false, refl, subst, sym, true, ℕ, ℤ}
+use Rattle.std.proofs.Common.{◌≡◌, ◌∙◌, List, None, Option, Some, [], ap, subst, sym, ℕ, ℤ}
 use Rattle.mpi_call.specs.declared.call.Call.{Call}
 use Rattle.mpi_call.specs.declared.call.Call.TheVariants.{Enter}
 use Rattle.mpi_call.specs.declared.call.Kind.{Kind}

@@ -1,27 +1,24 @@
 -- What a block's log keeps of pieces.
-use Rattle.std.proofs.Common.{◌≡◌, ◌≤◌, ◌<◌, ◌+◌, ◌-◌, ◌∷◌, ◌++◌, ◌∙◌, ◌&&◌, Bool, List, None, Option, Some, [], ap, arith, false, get_or, if◌then◌else◌, inl, inr, length, map, refl, subst, suc, sym, true, zero, ℕ, ℤ}
+use Rattle.std.proofs.Common.{◌≡◌, ◌≤◌, ◌+◌, ◌-◌, ◌∷◌, ◌++◌, ◌∙◌, ◌&&◌, Bool, List, [], ap, arith, false, inl, inr, length, refl, subst, true, ℕ, ℤ}
 use Rattle.std.specs.Prelude.{slice_index, sum_by}
 use Rattle.std.proofs.lemmas.List.Sums.{sum_by-cons, sum_by_push}
 use Rattle.std.proofs.lemmas.Bool.{le-ltb}
 use Rattle.mpi_call.specs.declared.call.Call.{Call}
 use Rattle.mpi_call.specs.declared.call.Call.TheVariants.{Abort, End, Enter, Peek, Post, Send, Take, Trap}
-use Rattle.mpi_call.specs.declared.reply.Got.{Got}
-use Rattle.mpi_call.specs.declared.reply.Got.TheVariants.{Sent, Nothing, Message, Joined, Made}
+use Rattle.mpi_call.specs.declared.reply.Got.TheVariants.{Message, Joined, Made}
 use Rattle.mpi_call.specs.declared.reply.Item.{Item}
 use Rattle.mpi_call.specs.declared.reply.Reply.{Reply}
 use Rattle.mpi_call.specs.declared.reply.Reply.TheVariants.{Done, NotYet, Peeked, Stopped, Took}
 use Rattle.mpi_call.specs.Members.{is_member}
-use Rattle.run_model.specs.declared.event.Event.{Event}
-use Rattle.run_model.specs.Views.{View, start_at, view_of}
+use Rattle.run_model.specs.Views.{View, start_at}
 use Rattle.run_model.proofs.Views.{test_cases}
-use Rattle.srr_entry.specs.declared.entry.Entry.{Entry}
 use Rattle.srr_entry.specs.declared.entry.Marked.{Marked}
 use Rattle.srr_entry.specs.Entries.{entries_from, entry_of, is_inner, mark_of_got, marks_of_items}
-use Rattle.srr_entry.proofs.Making.{entries_from-snoc, view_of-front, view_of-past}
+use Rattle.srr_entry.proofs.Making.{entries_from-snoc}
 use Rattle.plan_advice.specs.declared.pieces.Piece.{Piece}
 use Rattle.plan_advice.specs.declared.span.RunRank.{RunRank}
 use Rattle.plan_advice.specs.Costs.{ints_of_entry, ints_in_mark}
-use Rattle.plan_advice.specs.inside.Pieces.{AreGrown, ArePieces, HasRank, IsGrown, IsPiece, block_ranks, ints_given, ints_in_pieces, ints_of_got, ints_of_items, ints_of_reply, is_within, kept_in, kept_ints, view_cost}
+use Rattle.plan_advice.specs.inside.Pieces.{ArePieces, HasRank, IsGrown, IsPiece, block_ranks, ints_in_pieces, ints_of_got, ints_of_items, ints_of_reply, is_within, kept_in, kept_ints, view_cost}
 use Rattle.plan_advice.proofs.Blocks.{in_block}
 
 -- 1. pieces of what starts give

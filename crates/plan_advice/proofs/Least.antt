@@ -1,6 +1,6 @@
 -- No cutting costs less than a certificate's last bound.
-use Rattle.std.proofs.Common.{◌≡◌, ◌≤◌, ◌<◌, ◌+◌, ◌∷◌, List, [], ap, arith, slice_index, ℕ}
-use Rattle.plan_advice.specs.Cuttings.{AreEnds, CertificatesBound, IsBlock, IsCertificate, IsCutting, cost_from, cutting_cost}
+use Rattle.std.proofs.Common.{◌≤◌, ◌+◌, ◌∷◌, List, [], ap, arith, slice_index, ℕ}
+use Rattle.plan_advice.specs.Cuttings.{AreEnds, CertificatesBound, IsCertificate, cost_from}
 
 pub ends_within : (n most begin : ℕ) (ends : List ℕ) → AreEnds n most begin ends → begin ≤ n
 ends_within n most begin [] are = omega (arith, are)

@@ -1,11 +1,10 @@
 -- There is one advice on a run.
-use Rattle.std.proofs.Common.{◌≡◌, ◌≤◌, ◌<◌, ◌+◌, ◌++◌, ◌∷◌, ◌∙◌, ◌⊎◌, List, [], ap, arith, get_or, inl, inr, length, refl, slice_index, subst, suc, sym, zero, ℕ}
+use Rattle.std.proofs.Common.{◌≡◌, ◌≤◌, ◌+◌, ◌++◌, ◌∷◌, ◌∙◌, ◌⊎◌, List, [], ap, arith, inl, inr, refl, slice_index, subst, suc, sym, zero, ℕ}
 use Rattle.std.proofs.lemmas.List.{ext_get_or}
-use Rattle.run_model.specs.declared.event.Event.{Event}
 use Rattle.plan_advice.specs.declared.advice.Advice.{Advice}
-use Rattle.plan_advice.specs.Advices.{IsAdvice, RunsHaveOneAdvice}
+use Rattle.plan_advice.specs.Advices.{RunsHaveOneAdvice}
 use Rattle.plan_advice.specs.Costs.{block_cost}
-use Rattle.plan_advice.specs.Cuttings.{AreEnds, AreLeast, IsBlock, IsCertificate, IsLeastReached, IsReached}
+use Rattle.plan_advice.specs.Cuttings.{AreEnds, AreLeast, IsCertificate, IsLeastReached}
 use Rattle.std.proofs.lemmas.Bool.{cases_lt}
 use Rattle.plan_advice.proofs.Least.{ends_within}
 

@@ -1,5 +1,5 @@
 -- The advice that the cheapest ways give.
-use Rattle.std.proofs.Common.{◌≡◌, ◌≤◌, ◌<◌, ◌+◌, ◌∙◌, List, ap, arith, length, refl, sym, ℕ}
+use Rattle.std.proofs.Common.{◌≡◌, ◌<◌, ◌∙◌, List, arith, sym, ℕ}
 use Rattle.std.specs.Prelude.{slice_index}
 use Rattle.run_model.specs.declared.event.Event.{Event}
 use Rattle.plan_advice.specs.declared.advice.Advice.{Advice}

@@ -1,7 +1,6 @@
 -- The log of a group keeps few ints.
-use Rattle.std.proofs.Common.{◌≡◌, ◌≤◌, ◌<◌, ◌+◌, ◌*◌, ◌^◌, ◌∷◌, ◌++◌, ◌==◌, All, Bool, List, [], arith, if◌then◌else◌, inl, inr, length, refl, suc, true, false, ℕ}
+use Rattle.std.proofs.Common.{◌≤◌, ◌<◌, ◌+◌, ◌*◌, ◌^◌, ◌∷◌, ◌++◌, ◌==◌, All, List, [], arith, inl, inr, length, ℕ}
 use Rattle.std.specs.Prelude.{slice_index, sum_by}
-use Rattle.std.proofs.lemmas.Bool.{lt-ltb}
 use Rattle.std.proofs.lemmas.List.Sums.{sum_by-cons}
 use Rattle.mpi_call.specs.declared.call.Call.{Call}
 use Rattle.mpi_call.specs.declared.reply.Got.{Got}
@@ -13,7 +12,6 @@ use Rattle.mpi_call.specs.Calls.{listed_by}
 use Rattle.mpi_call.specs.Lists.{Rises}
 use Rattle.mpi_call.specs.Members.{is_member}
 use Rattle.run_model.specs.declared.event.Event.{Event}
-use Rattle.run_model.specs.Lists.{are_below}
 use Rattle.run_model.specs.Views.{View, start_at, view_of}
 use Rattle.run_model.proofs.Views.{test_cases}
 use Rattle.srr_entry.specs.declared.entry.Marked.{Marked}

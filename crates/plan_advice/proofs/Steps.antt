@@ -1,13 +1,12 @@
 -- The cheapest ways, one end after the other.
-use Rattle.std.proofs.Common.{◌≡◌, ◌≤◌, ◌<◌, ◌+◌, ◌-◌, ◌*◌, ◌^◌, ◌∷◌, ◌++◌, ◌∙◌, ◌⊎◌, List, [], ap, arith, get_or, if◌then◌else◌, inl, inr, length, length-append, nat_lt, refl, subst, suc, sym, ℕ}
+use Rattle.std.proofs.Common.{◌≡◌, ◌≤◌, ◌<◌, ◌+◌, ◌-◌, ◌*◌, ◌^◌, ◌∷◌, ◌++◌, ◌∙◌, ◌⊎◌, List, [], ap, arith, if◌then◌else◌, inl, inr, length, length-append, nat_lt, refl, subst, sym, ℕ}
 use Rattle.std.specs.Prelude.{slice_index}
 use Rattle.std.proofs.lemmas.Bool.{cases_lt, ltb-false, ltb-true}
 use Rattle.std.proofs.lemmas.List.{get_or_append_left, get_or_push}
 use Rattle.run_model.proofs.Views.{test_cases}
 use Rattle.plan_advice.specs.declared.ways.LastBlock.{LastBlock}
-use Rattle.plan_advice.specs.declared.ways.Ways.{Ways}
-use Rattle.plan_advice.specs.Cuttings.{AreEnds, AreLeast, IsBlock, IsCertificate, IsLeastReached, IsReached, cost_from}
-use Rattle.plan_advice.specs.inside.Ways.{AreBegins, AreFalling, AreLed, AreSmallCosts, AreWays, IsCheapest, LeadTo, cost_by}
+use Rattle.plan_advice.specs.Cuttings.{AreEnds, AreLeast, IsBlock, IsLeastReached, IsReached, cost_from}
+use Rattle.plan_advice.specs.inside.Ways.{AreLed, AreWays, IsCheapest, LeadTo, cost_by}
 
 -- 1. ways to one end
 

@@ -1,5 +1,5 @@
 -- What a block costs, by the lists of its ranks.
-use Rattle.std.proofs.Common.{◌≡◌, ◌≤◌, ◌<◌, ◌+◌, ◌-◌, ◌*◌, ◌^◌, ◌∷◌, ◌++◌, ◌∙◌, ◌⊎◌, List, [], ap, arith, get_or, inl, inr, length, length-append, map, refl, subst, suc, sym, zero, ℕ}
+use Rattle.std.proofs.Common.{◌≡◌, ◌≤◌, ◌<◌, ◌+◌, ◌-◌, ◌^◌, ◌∷◌, ◌++◌, ◌∙◌, ◌⊎◌, List, [], ap, arith, get_or, inl, inr, length, length-append, map, refl, subst, suc, sym, zero, ℕ}
 use Rattle.std.specs.Prelude.{sum_by}
 use Rattle.std.specs.List.{slice_index_or}
 use Rattle.std.proofs.lemmas.Bool.{cases_lt}
@@ -8,11 +8,10 @@ use Rattle.std.proofs.lemmas.List.Sums.{sum_by-cons}
 use Rattle.run_model.specs.declared.event.Event.{Event}
 use Rattle.run_model.specs.Lists.{world}
 use Rattle.run_model.specs.Views.{view_of}
-use Rattle.srr_entry.specs.declared.entry.Entry.{Entry}
-use Rattle.srr_entry.specs.Entries.{entries_from, log_of}
+use Rattle.srr_entry.specs.Entries.{entries_from}
 use Rattle.plan_advice.specs.declared.pieces.Piece.{Piece}
-use Rattle.plan_advice.specs.Costs.{block_cost, group_cost, ints_of_entry, ints_in_log}
-use Rattle.plan_advice.specs.inside.Pieces.{AreCosts, AreFew, ArePieces, HasRank, block_ranks, ints_in_pieces, kept_by, kept_in, view_cost}
+use Rattle.plan_advice.specs.Costs.{block_cost, group_cost, ints_of_entry}
+use Rattle.plan_advice.specs.inside.Pieces.{AreCosts, AreFew, ArePieces, block_ranks, ints_in_pieces, kept_by, kept_in, view_cost}
 
 -- an element does not rest on the default
 pub same_at : {X : Type 0} (xs : List X) (i : ℕ) (d e : X) → i < length xs → get_or xs i d ≡ get_or xs i e

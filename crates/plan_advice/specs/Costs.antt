@@ -1,6 +1,5 @@
 -- What a group of ranks costs: the ints that its log keeps.
 use Rattle.std.specs.Prelude.{◌-◌, ℕ, List, [], length, sum_by}
-use Rattle.mpi_call.specs.declared.limits.TheConstants.{MOST_RANKS}
 use Rattle.run_model.specs.declared.event.Event.{Event}
 use Rattle.run_model.specs.Lists.{world}
 use Rattle.run_model.specs.Program.{AsksInBounds, EndsExactly, EntersInForm}

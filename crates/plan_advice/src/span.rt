@@ -1,5 +1,5 @@
 //! How far the ranks reach that a collective's result came from.
-ghost use Rattle.std.specs.Prelude.{◌≡◌, ◌&&◌, ℕ, IsTrue, if◌then◌else◌, max, min, true};
+ghost use Rattle.std.specs.Prelude.{◌≡◌, ◌&&◌, ℕ, if◌then◌else◌, max, min, true};
 ghost use Rattle.mpi_call.specs.Members.{is_member};
 ghost use Rattle.mpi_call.specs.Needs.{IsEnterOf, needs};
 ghost use Rattle.run_model.specs.Forms.{IsInOrder};

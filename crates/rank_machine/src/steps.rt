@@ -1,6 +1,6 @@
 //! Statements: what each does at once, and what it opens.
 ghost use Rattle.std.specs.Prelude.{◌≡◌, ◌≢◌, ◌≤◌, ◌<◌, ◌+◌, ◌*◌, OnOk, IfOk, Some, map, option_copied, option_map};
-ghost use Rattle.c_program.specs.Meaning.{act, act_part, act_parts, declare_variable, declare_all, for_update, leaving, loop, loop_after, no_update, return, simple, started, test, trying};
+ghost use Rattle.c_program.specs.Meaning.{act, act_part, act_parts, declare_all, for_update, leaving, loop, loop_after, no_update, return, simple, started, test};
 ghost use Rattle.c_program.specs.State.{stack_mark};
 ghost use Rattle.c_program.specs.View.{pure_call, pure_expr, pure_initial, pure_item, pure_part, pure_parts, pure_right, pure_simple, pure_start, pure_stmt};
 ghost use Rattle.c_run_replies.specs.declared.question.Reached.TheVariants.{Done};

@@ -2,7 +2,7 @@
 ghost use Rattle.std.specs.Prelude.{◌≡◌, ◌<◌, ◌≤◌, [], ℕ, IfOk, All, false, length, slice_index_or};
 ghost use Rattle.turn_lock.specs.Seat.{AreFresh, HasFrame};
 ghost use Rattle.turn_lock.specs.Seats.{AllIdle};
-ghost use Rattle.rank_threads.specs.inside.Workers.{AreBeside, AreSeated, AreWorkers, AreRunsAfter, CanWork, HasWorked, IsWorker};
+ghost use Rattle.rank_threads.specs.inside.Workers.{AreBeside, AreSeated, AreWorkers, AreRunsAfter, CanWork, HasWorked};
 
 use crate::attempts::Attempts;
 use crate::bell::Bell;

@@ -1,5 +1,5 @@
 //! What ranks started and what of it was taken.
-ghost use Rattle.std.specs.Prelude.{◌≡◌, ◌<◌, ◌++◌, ◌∷◌, [], ℕ, List, Some, true, false, length, replicate, IfOk, IsOk, IsTrue, OnErr, OnOk};
+ghost use Rattle.std.specs.Prelude.{◌≡◌, ◌<◌, ◌++◌, ◌∷◌, [], ℕ, List, Some, true, false, length, replicate, IfOk, IsOk, IsTrue, OnErr};
 ghost use Rattle.mpi_call.specs.declared.call.Call.{Call};
 ghost use Rattle.mpi_call.specs.Calls.{comm_of, is_enter, is_starting};
 ghost use Rattle.run_model.specs.declared.event.Event.{Event};

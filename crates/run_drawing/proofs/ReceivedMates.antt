@@ -1,5 +1,5 @@
 -- Where a message was received, the views tell its mate.
-use Rattle.std.proofs.Common.{◌≡◌, ℕ, ℤ, List, Option, Some, ap, sym, ◌∙◌, slice_get, slice_index, subst, take}
+use Rattle.std.proofs.Common.{◌≡◌, ℕ, ℤ, List, Some, ap, sym, ◌∙◌, slice_get, slice_index, subst, take}
 use Rattle.mpi_call.specs.declared.call.Call.{Call}
 use Rattle.mpi_call.specs.declared.reply.Got.{Got}
 use Rattle.mpi_call.specs.declared.reply.Got.TheVariants.{Message as GotMessage}

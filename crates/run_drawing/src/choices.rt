@@ -3,9 +3,8 @@ ghost use Rattle.std.specs.Prelude.{◌≡◌, ◌<◌, ◌≤◌, ◌++◌, ◌
 ghost use Rattle.mpi_call.specs.Acceptance.{tag_named};
 ghost use Rattle.causes.specs.Positions.{positions};
 ghost use Rattle.msg_races.specs.declared.sends.Way.{Way as WaySpec};
-ghost use Rattle.msg_races.specs.Listing.{lists_below};
 ghost use Rattle.msg_races.specs.Ways.{goes_way, same_way};
-ghost use Rattle.run_drawing.specs.Choices.{choice_beside, choice_of, choices, first_untaken, is_untaken, unless_late, message_way};
+ghost use Rattle.run_drawing.specs.Choices.{choice_beside, choices, first_untaken, is_untaken, unless_late};
 ghost use Rattle.run_drawing.specs.Columns.{point};
 ghost use Rattle.run_drawing.specs.inside.Scenes.{ArePast, IsScene, basis_of, skipped_at};
 

@@ -1,12 +1,12 @@
 //! Drawing a run.
-ghost use Rattle.std.specs.Prelude.{◌≡◌, ◌<◌, ◌++◌, ◌∷◌, ◌^◌, [], ℕ, IfOk, Ok, OnOk, Option, Some, None, flat_map, length, slice_get, slice_index};
+ghost use Rattle.std.specs.Prelude.{◌≡◌, ◌<◌, ◌++◌, [], IfOk, Ok, OnOk, Option, Some, None, flat_map, slice_get, slice_index};
 ghost use Rattle.std.specs.List.{list_any};
 ghost use Rattle.mpi_call.specs.declared.reply.Item.{Item as ItemSpec};
 ghost use Rattle.causes.specs.Clocks.{AreOfRanks};
-ghost use Rattle.causes.specs.Positions.{is_event_of, positions, start_position};
+ghost use Rattle.causes.specs.Positions.{start_position};
 ghost use Rattle.group_plan.specs.Plans.{group_of, number_of_ranks};
 ghost use Rattle.msg_races.specs.Listing.{lists_below};
-ghost use Rattle.run_drawing.specs.Drawings.{IsDrawing, arrow_from, collective_at, collective_by, collective_of, drawn, rank_groups, is_wildcard_at, latest_of, mark_at, marks_from, drawn_marks, of_events, of_starts, probe_at, probe_by, takes_wildcard, takes_wildcard_in, unreceived_at, unreceived_by, unreceived_of};
+ghost use Rattle.run_drawing.specs.Drawings.{IsDrawing, arrow_from, collective_at, collective_by, collective_of, drawn, rank_groups, is_wildcard_at, latest_of, mark_at, drawn_marks, of_events, of_starts, probe_at, probe_by, takes_wildcard, takes_wildcard_in, unreceived_at, unreceived_by};
 ghost use Rattle.run_drawing.specs.inside.Scenes.{IsScene, basis_of};
 
 use crate::drawing::{Arrow, Drawing, DrawnCollective, DrawnMark, Point, Unreceived};

@@ -1,9 +1,7 @@
 //! Receives, the messages that they took, and those that they could have taken instead.
-ghost use Rattle.std.specs.Prelude.{◌≡◌, ◌++◌, ◌∷◌, [], IfOk, None, OnOk, Option, Some, flat_map};
-ghost use Rattle.mpi_call.specs.Lists.{Rises};
-ghost use Rattle.causes.specs.Positions.{is_start_of, positions};
+ghost use Rattle.std.specs.Prelude.{◌≡◌, ◌++◌, IfOk, None, OnOk, Option, Some};
 ghost use Rattle.msg_races.specs.Listing.{lists_below};
-ghost use Rattle.run_drawing.specs.Drawings.{wildcard_choices, bar_end, is_any, completed_message, drawn_message, of_starts, receive_at, receive_by, drawn_receive};
+ghost use Rattle.run_drawing.specs.Drawings.{wildcard_choices, bar_end, is_any, completed_message, of_starts, receive_at, receive_by, drawn_receive};
 ghost use Rattle.run_drawing.specs.Links.{completion_in, links};
 ghost use Rattle.run_drawing.specs.inside.Scenes.{ArePast, IsScene, basis_of};
 

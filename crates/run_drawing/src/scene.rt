@@ -1,5 +1,5 @@
 //! What is looked up in a history while it is drawn.
-ghost use Rattle.std.specs.Prelude.{◌≡◌, ◌<◌, ◌≤◌, ◌+◌, ◌^◌, [], ℕ, suc, None, Some, IfOk, Option, length, max, option_map, slice_get, slice_index, take, if◌then◌else◌};
+ghost use Rattle.std.specs.Prelude.{◌≡◌, ◌<◌, ◌≤◌, ◌+◌, ◌^◌, ℕ, None, Some, IfOk, Option, length, max, option_map, slice_get, slice_index, if◌then◌else◌};
 ghost use Rattle.std.specs.List.{list_any};
 ghost use Rattle.mpi_call.specs.Calls.{is_wildcard};
 ghost use Rattle.causes.specs.Clocks.{AreOfRanks};
@@ -9,7 +9,7 @@ ghost use Rattle.run_model.specs.declared.event.Event.{Event as EventSpec};
 ghost use Rattle.run_model.specs.Due.{stops};
 ghost use Rattle.run_model.specs.Views.{rank_of_event};
 ghost use Rattle.run_drawing.specs.Choices.{is_untaken};
-ghost use Rattle.run_drawing.specs.Columns.{behind_all, behind_first, column, column_behind, column_by, columns_of, point};
+ghost use Rattle.run_drawing.specs.Columns.{behind_all, column, column_behind, column_by, columns_of, point};
 ghost use Rattle.run_drawing.specs.Drawings.{column_in, is_wildcard_at, is_wildcard_in};
 ghost use Rattle.run_drawing.specs.Links.{cause_at, completion_in, last_position, links, taker_in};
 ghost use Rattle.run_drawing.specs.inside.Scenes.{IsScene, basis_of};

@@ -1,8 +1,6 @@
 //! One pass over the events: how deep each lies, and what each had to wait for.
-ghost use Rattle.std.specs.Prelude.{◌≡◌, ◌<◌, ◌≤◌, ◌+◌, ◌-◌, ◌^◌, ℕ, suc, zero, IfOk, OnOk, Option, Some, None, length, slice_get, slice_index};
+ghost use Rattle.std.specs.Prelude.{◌≡◌, ◌<◌, ◌+◌, ◌-◌, ◌^◌, ℕ, IfOk, OnOk, Option, Some, None, length, slice_index};
 ghost use Rattle.causes.specs.Beside.{AreTables};
-ghost use Rattle.causes.specs.Clocks.{AreOfRanks};
-ghost use Rattle.causes.specs.Positions.{is_event_of, positions};
 ghost use Rattle.causes.specs.Steps.{rests_on};
 ghost use Rattle.run_drawing.specs.Links.{deeper, deepest, depth_after, last_position};
 ghost use Rattle.run_drawing.specs.inside.Scenes.{IsTraced};

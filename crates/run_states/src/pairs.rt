@@ -1,5 +1,5 @@
 //! The pairs of a history, and the partners of its starts.
-ghost use Rattle.std.specs.Prelude.{◌≡◌, ◌++◌, ◌∷◌, [], IfOk, OnOk, map};
+ghost use Rattle.std.specs.Prelude.{◌≡◌, ◌++◌, IfOk, OnOk, map};
 ghost use Rattle.run_model.specs.Lists.{world};
 ghost use Rattle.run_model.specs.Pairs.{pair_of, pairs_of, partner_of};
 ghost use Rattle.run_states.specs.Codes.{code_of_partner, code_of_partners, codes_of};

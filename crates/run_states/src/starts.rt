@@ -1,5 +1,5 @@
 //! The starts of a history, by their names.
-ghost use Rattle.std.specs.Prelude.{◌≡◌, ◌∷◌, [], length, slice_get, take};
+ghost use Rattle.std.specs.Prelude.{◌≡◌, ◌∷◌, [], length};
 ghost use Rattle.run_model.specs.Pairs.{name_at};
 ghost use Rattle.run_model.specs.Views.{starts_of, view_of};
 ghost use Rattle.run_states.specs.Futures.{mate_name};

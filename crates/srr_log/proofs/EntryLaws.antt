@@ -1,8 +1,7 @@
 -- An entry's line, both ways.
 use Rattle.std.proofs.Common.{◌≡◌, ℕ, ◌+◌, ◌<◌, ◌≤◌, inl, inr, true, false, List, [], ◌∷◌, ◌++◌, map, length, refl, sym, ◌∙◌, ap, subst, arith}
-use Rattle.std.specs.Prelude.{◌==◌, All, codes, Option, Some, None, ℤ, FitsSigned, if◌then◌else◌}
+use Rattle.std.specs.Prelude.{All, codes, Option, Some, None, ℤ, FitsSigned, if◌then◌else◌}
 use Rattle.std.specs.Str.{bytes_eq}
-use Rattle.std.proofs.lemmas.Bool.{eqb-true}
 use Rattle.std.proofs.lemmas.List.Elements.{All-from_recursion, recursion_from_All}
 use mir.Syntax.{w32}
 use Rattle.mpi_call.specs.declared.call.Fault.{Fault}

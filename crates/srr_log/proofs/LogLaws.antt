@@ -10,10 +10,10 @@ use Rattle.srr_entry.specs.declared.entry.Entry.{Entry}
 use Rattle.srr_entry.specs.declared.entry.Entry.TheVariants.{Sent}
 use Rattle.srr_entry.specs.declared.log.Log.{Log}
 use Rattle.srr_log.specs.Bounds.{IsGroup, AreEntries, IsList, IsInBounds}
-use Rattle.srr_log.specs.Parts.{LogPart, head_line, ranks_line, group_line, size_line, program_bytes, rank_line, entry_part, end_line, parts_text, lists_parts, log_parts}
+use Rattle.srr_log.specs.Parts.{LogPart, head_line, ranks_line, group_line, size_line, program_bytes, rank_line, entry_part, end_line, lists_parts, log_parts}
 use Rattle.srr_log.specs.Faults.{SomeLog}
 use Rattle.srr_log.specs.inside.Reading.{ReadingState, at_head, at_ranks, at_group, at_size, at_program, at_list, at_entry, at_end, entries_left, Allows, next, after, Runs, expected, IsOpen}
-use Rattle.srr_log.proofs.StateLaws.{IsSmallState, runs_append, after_append, runs_split, parts_text-append, after_entries}
+use Rattle.srr_log.proofs.StateLaws.{IsSmallState, runs_append, after_append, runs_split, after_entries}
 
 -- the parts of a log run to the end
 abbrev pub RunsTo : ReadingState → List LogPart → Type 0

@@ -1,5 +1,5 @@
 //! Reading an entry's line.
-ghost use Rattle.std.specs.Prelude.{◌≡◌, ◌++◌, ◌∷◌, []};
+ghost use Rattle.std.specs.Prelude.{◌≡◌};
 ghost use Rattle.srr_log.specs.inside.EntryReading.{all_items_in, detail_in, detailed_in, entry_in, halt_in, item_in, items_in, long_entry_in, named_in, peek_in};
 ghost use Rattle.srr_log.specs.inside.Pieces.{Adds, GivesPiece};
 

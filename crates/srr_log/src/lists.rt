@@ -1,5 +1,5 @@
 //! Lists within a line, a mark between each two elements.
-ghost use Rattle.std.specs.Prelude.{◌≡◌, ◌++◌, ◌∷◌, [], IsTrue, OnOk, length, map};
+ghost use Rattle.std.specs.Prelude.{◌≡◌};
 ghost use Rattle.mpi_call.specs.Lists.{rises};
 ghost use Rattle.srr_log.specs.inside.EntryReading.{few_ints_in, ints_in, ranks_in};
 ghost use Rattle.srr_log.specs.inside.Pieces.{Adds, GivesPiece, int_in, rank_in};
@@ -7,7 +7,7 @@ ghost use Rattle.srr_log.specs.inside.Pieces.{Adds, GivesPiece, int_in, rank_in}
 use crate::pieces::{int, rank, split_once};
 use crate::read_error::Unread;
 use mpi_call::lists::{Ints, Ranks};
-use std::alloc::{AllocError, Global};
+use std::alloc::Global;
 
 /// Ints with commas between, at most this many; none is no byte.
 #[tactic(auto, unfolding(crate::specs::inside::EntryReading::few_ints_in))]

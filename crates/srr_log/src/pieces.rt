@@ -1,5 +1,5 @@
 //! The pieces of a line, and the numbers that they spell.
-ghost use Rattle.std.specs.Prelude.{◌≡◌, ◌≢◌, ◌<◌, ◌≤◌, ⊤, All, MatchOption, slice_index, take, length};
+ghost use Rattle.std.specs.Prelude.{◌≡◌, ◌≢◌, ◌<◌, ⊤, All, MatchOption, slice_index, take, length};
 ghost use Rattle.srr_log.specs.inside.Pieces.{GivesText, GivesSplit, after_word, split_once, int_in, number_in, rank_in};
 
 use wiz_base::{decimal, number_i64};

@@ -6,8 +6,8 @@ ghost use Rattle.srr_log.specs.declared.fault.LogFault.{LogFault};
 ghost use Rattle.srr_log.specs.Bounds.{IsInBounds};
 ghost use Rattle.srr_log.specs.Faults.{IsFirstPartFault, no_memory};
 ghost use Rattle.srr_log.specs.LogText.{IsLogText, log_text};
-ghost use Rattle.srr_log.specs.Parts.{LogPart, head_line, ranks_line, group_line, size_line, program_bytes, rank_line, entry_part, end_line, lists_parts, log_parts};
-ghost use Rattle.srr_log.specs.inside.Reading.{IsNextLine, Reads, at_end, at_entry, at_group, at_head, at_list, at_program, at_ranks, at_size, entries_left};
+ghost use Rattle.srr_log.specs.Parts.{head_line, ranks_line, group_line, size_line, program_bytes, rank_line, entry_part, end_line, lists_parts, log_parts};
+ghost use Rattle.srr_log.specs.inside.Reading.{IsNextLine, Reads, at_entry, at_group, at_head, at_list, at_program, at_ranks, at_size, entries_left};
 
 use crate::adding::{add_entry, add_list};
 use crate::fault::{LogFault, LogWhy};

@@ -1,8 +1,8 @@
 //! Numbers as text, one after the other.
-ghost use Rattle.std.specs.Prelude.{◌≡◌, ◌∷◌, ◌++◌, ℕ, List, OnOk, map};
+ghost use Rattle.std.specs.Prelude.{◌≡◌, ◌++◌, ℕ, List, OnOk, map};
 ghost use Rattle.srr_log.specs.EntryText.{by_commas, each_after};
 
-use std::alloc::{AllocError, Global};
+use std::alloc::AllocError;
 use wiz_base::{Bytes, push_decimal, push_number, push_text};
 
 /// A number with a text.

@@ -1,6 +1,6 @@
 -- How many bytes the pieces of a log's text have.
 use Rattle.std.proofs.Common.{◌≡◌, ◌+◌, ℕ, ℤ, List, [], ◌∷◌, ◌++◌, length, length-append, arith, refl}
-use Rattle.std.specs.Prelude.{◌*◌, codes}
+use Rattle.std.specs.Prelude.{◌*◌}
 use Rattle.byteorder.specs.Numbers.{length-bytes_high_first}
 use Rattle.sha2.specs.Sha256.{sha256}
 use Rattle.sha2.proofs.Facts256.{length-sha256}

@@ -1,9 +1,9 @@
 //! Writing the entries of a log.
-ghost use Rattle.std.specs.Prelude.{◌≡◌, ◌<◌, ◌≤◌, ◌+◌, ◌^◌, ◌++◌, ◌∷◌, [], OnOk, length, true, false};
+ghost use Rattle.std.specs.Prelude.{◌≡◌, ◌<◌, ◌≤◌, ◌+◌, ◌^◌, ◌++◌, ◌∷◌, [], OnOk, length, false};
 ghost use Rattle.srr_entry.specs.declared.entry.Entry.TheVariants.{PeekedOutside};
 ghost use Rattle.srr_entry.specs.declared.entry.Mark.TheVariants.{Outside};
 ghost use Rattle.srr_log2.specs.EntryBytes.{counted_bytes, halt_bytes, int_bytes, ints_bytes, is_not_yet, items_bytes, list_bytes, mark_bytes, name_bytes, not_yets, record_bytes, records_bytes, tagged_bytes, word_bytes};
-ghost use Rattle.srr_log2.specs.inside.Lengths.{AreShortEntries, AreShortItems, IsShortEntry, IsShortList, IsShortMark};
+ghost use Rattle.srr_log2.specs.inside.Lengths.{AreShortItems, IsShortEntry, IsShortList, IsShortMark};
 
 use crate::kind::is_not_yet;
 use byteorder::{BigEndian, ByteOrder};

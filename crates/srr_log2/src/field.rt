@@ -1,10 +1,9 @@
 //! Fields: numbers of one byte and of four, ranks and faults.
 ghost use mir.Syntax.{w32};
-ghost use Rattle.std.specs.Prelude.{◌≡◌, ◌≤◌, IfOk, FitsSigned, ◌<◌, ◌^◌, ◌↔◌, ℕ, List, length, IsTrue, true};
-ghost use Rattle.mpi_call.specs.Collectives.{is_member};
+ghost use Rattle.std.specs.Prelude.{◌≡◌, ◌≤◌, IfOk, FitsSigned, ◌<◌, length};
 ghost use Rattle.srr_log.specs.declared.fault.LogWhy.TheVariants.{BadEntry};
 ghost use Rattle.srr_log2.specs.EntryBytes.{word_bytes};
-ghost use Rattle.srr_log2.specs.Fields.{GivesFields, IsByte, IsField, IsWord, coded_byte, coded_word, only_if};
+ghost use Rattle.srr_log2.specs.Fields.{GivesFields, IsByte, IsField, IsWord, coded_word};
 ghost use Rattle.srr_log2.specs.EntryReading.{between, coded_count, coded_fault, coded_int, coded_rank, coded_sender, coded_small_number, coded_tag};
 
 use crate::read_error::{bad_entry, cut_off};

@@ -1,7 +1,7 @@
 //! Lists of ints and of ranks.
-ghost use Rattle.std.specs.Prelude.{◌≡◌, ◌++◌, ◌∷◌, [], OnOk, length};
+ghost use Rattle.std.specs.Prelude.{◌≡◌, ◌++◌, ◌∷◌, [], OnOk};
 ghost use Rattle.srr_log2.specs.Fields.{GivesFields, coded_many};
-ghost use Rattle.srr_log2.specs.EntryReading.{between, coded_int, coded_ints, coded_members, coded_rank};
+ghost use Rattle.srr_log2.specs.EntryReading.{coded_int, coded_ints, coded_members, coded_rank};
 
 use crate::field::{byte, count, int, rank};
 use crate::read_error::bad_entry;

@@ -1,5 +1,4 @@
 //! Marks: what a completed start gave.
-ghost use Rattle.std.specs.Prelude.{◌≡◌};
 ghost use Rattle.srr_log2.specs.declared.kind.MarkKind.TheVariants.{Outside};
 ghost use Rattle.srr_log2.specs.Fields.{GivesFields};
 ghost use Rattle.srr_log2.specs.EntryReading.{coded_mark, coded_mark_kind, mark_of};

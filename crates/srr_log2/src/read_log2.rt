@@ -1,5 +1,5 @@
 //! Reading a log field by field.
-ghost use Rattle.std.specs.Prelude.{◌≡◌, ◌<◌, ◌≤◌, ◌^◌, ◌↔◌, ◌⊎◌, ◌++◌, ◌∷◌, [], ℕ, List, OnOk, IfOk, IfErr, MatchResult, IsTrue, length};
+ghost use Rattle.std.specs.Prelude.{◌≡◌, ◌<◌, ◌≤◌, ◌^◌, ◌↔◌, ◌⊎◌, ◌++◌, [], ℕ, List, OnOk, IfOk, IfErr, MatchResult, IsTrue, length};
 ghost use Rattle.byteorder.specs.Endian.{big_bytes};
 ghost use Rattle.sha2.specs.Sha256.{sha256};
 ghost use Rattle.group_plan.specs.OneReading.{HaveOneReading};
@@ -8,7 +8,7 @@ ghost use Rattle.srr_log.specs.declared.fault.LogFault.{LogFault};
 ghost use Rattle.srr_log.specs.Faults.{no_memory};
 ghost use Rattle.srr_log.specs.Bounds.{IsInBounds};
 ghost use Rattle.srr_log.specs.LogText.{log_text};
-ghost use Rattle.srr_log2.specs.EntryReading.{between, coded_rank_list};
+ghost use Rattle.srr_log2.specs.EntryReading.{coded_rank_list};
 ghost use Rattle.srr_log2.specs.Fields.{GivesFields, coded_many};
 ghost use Rattle.srr_log2.specs.LogBytes.{AreLogBytes, log_bytes};
 ghost use Rattle.srr_log2.specs.Reading.{IsFirstFieldFault, bits_set, coded_body, coded_close, coded_digest, coded_end, coded_group, coded_head, head_why, coded_log, coded_program, coded_rank_count};
@@ -19,7 +19,7 @@ use byteorder::{BigEndian, ByteOrder};
 use mpi_call::limits::MOST_RANKS;
 use mpi_call::lists::Ranks;
 use sha2::{Digest, Sha256};
-use srr_entry::log::{Entries, Lists, Log};
+use srr_entry::log::{Lists, Log};
 use srr_log::adding::add_list;
 use srr_log::fault::{LogFault, LogWhy};
 use srr_log::limits::MOST_PROGRAM_BYTES;

@@ -1,9 +1,9 @@
 //! Records: the entries of a rank, by their bytes.
-ghost use Rattle.std.specs.Prelude.{◌≡◌, ◌≤◌, IfOk, ◌++◌, ◌∷◌, ◌+◌, ◌<◌, ◌^◌, [], OnOk, true, false, length};
+ghost use Rattle.std.specs.Prelude.{◌≡◌, ◌≤◌, IfOk, ◌++◌, ◌∷◌, ◌+◌, ◌<◌, ◌^◌, [], OnOk, true, false};
 ghost use Rattle.srr_entry.specs.declared.entry.Entry.TheVariants.{Took};
 ghost use Rattle.srr_log2.specs.declared.kind.RecordKind.TheVariants.{PeekedOutside};
 ghost use Rattle.srr_log2.specs.EntryBytes.{is_not_yet};
-ghost use Rattle.srr_log2.specs.Fields.{GivesFields, coded_many};
+ghost use Rattle.srr_log2.specs.Fields.{GivesFields};
 ghost use Rattle.srr_log2.specs.EntryReading.{coded_entries, coded_halt, halt_of, coded_item, coded_items, coded_rank_list, may_stand, coded_record, coded_record_kind, record_of, coded_some_items};
 
 use crate::field::{byte, count, fault, int, number, rank, sender, small, tag, word};

@@ -1,8 +1,7 @@
 //! A whole recording on one thread.
-ghost use Rattle.std.specs.Prelude.{◌≡◌, ◌<◌, ◌++◌, ◌∷◌, [], false, All, IfOk, OnOk, map, true};
+ghost use Rattle.std.specs.Prelude.{◌≡◌, ◌<◌, [], All, IfOk, OnOk, map, true};
 ghost use Rattle.group_plan.specs.Plans.{number_of_ranks};
 ghost use Rattle.mpi_machine.specs.Turns.{IsAtStage};
-ghost use Rattle.run_model.specs.Due.{halted};
 ghost use Rattle.run_model.specs.Endings.{ending_by};
 ghost use Rattle.run_model.specs.Lists.{IsPrefixOf, world};
 ghost use Rattle.run_model.specs.Serial.{Stage};

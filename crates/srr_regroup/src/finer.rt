@@ -1,5 +1,5 @@
 //! The log of a part of a group.
-ghost use Rattle.std.specs.Prelude.{◌≡◌, ◌<◌, ℕ, [], IfErr, IfOk, OnOk, None, Some, length, true, false};
+ghost use Rattle.std.specs.Prelude.{◌≡◌, ◌<◌, ℕ, [], IfErr, IfOk, OnOk, None, Some, length, false};
 ghost use Rattle.std.specs.List.{list_any, slice_index_or};
 ghost use Rattle.mpi_call.specs.Collectives.{is_member};
 ghost use Rattle.srr_replay.specs.Rounds.{IsReplayable};

@@ -1,5 +1,5 @@
 //! The reply that an entry represents, where it fits, and all that it rests on is there and agrees.
-ghost use Rattle.std.specs.Prelude.{◌≡◌, ◌<◌, ◌++◌, ◌∷◌, [], ℕ, List, None, Ok, Some, IfOk, OnOk, true, false};
+ghost use Rattle.std.specs.Prelude.{◌≡◌, ◌<◌, [], ℕ, List, None, Ok, Some, IfOk, true, false};
 ghost use Rattle.mpi_call.specs.declared.call.Call.{Call};
 ghost use Rattle.mpi_call.specs.declared.reply.Got.TheVariants.{Joined, Made, Message};
 ghost use Rattle.mpi_call.specs.Calls.{comm_of, ints_of, is_enter, makes};

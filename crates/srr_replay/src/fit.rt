@@ -16,7 +16,6 @@ use crate::indexed_history::IndexedHistory;
 use crate::next_call::NextCall;
 use mpi_call::acceptance::{is_source_of, is_tag_of};
 use mpi_call::call::{Call, Comm, Kind, Source};
-use mpi_call::lists::Ranks;
 use mpi_call::needs::{UNDEFINED, colour_in};
 use run_model::communicators::are_same;
 use run_model::shape;

@@ -2,7 +2,7 @@
 ghost use Rattle.std.specs.Prelude.{◌≡◌, ◌<◌, ◌++◌, ◌∷◌, [], IfOk, IfSome, OnOk, OnErr, true, length, option_map};
 ghost use Rattle.mpi_call.specs.Calls.{is_enter};
 ghost use Rattle.mpi_call.specs.Collectives.{is_member};
-ghost use Rattle.run_model.specs.Communicators.{enter_at, instance_of, is_on, known_in, members_for_rank};
+ghost use Rattle.run_model.specs.Communicators.{enter_at, instance_of, known_in, members_for_rank};
 ghost use Rattle.run_model.specs.Views.{start_at, taken_of, view_of};
 ghost use Rattle.view_tables.specs.EnterTable.{AreEntersKnown};
 ghost use Rattle.srr_replay.specs.inside.IndexedHistory.{entered_of};

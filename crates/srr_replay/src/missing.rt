@@ -13,7 +13,7 @@ ghost use Rattle.srr_replay.specs.Places.{AreThere};
 use crate::fit::comm_of;
 use crate::indexed_history::IndexedHistory;
 use crate::next_call::NextCall;
-use mpi_call::call::{Call, Comm};
+use mpi_call::call::Call;
 use mpi_call::lists::Ranks;
 use mpi_call::needs::needs;
 use replay_model::step::Missing;

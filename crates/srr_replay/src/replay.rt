@@ -1,5 +1,5 @@
 //! A replay, one event at a time.
-ghost use Rattle.std.specs.Prelude.{◌≡◌, ◌++◌, ◌∷◌, ◌<◌, ◌≤◌, [], OnOk, OnErr, IfOk, IsOk, length, Some, true};
+ghost use Rattle.std.specs.Prelude.{◌≡◌, ◌++◌, ◌∷◌, ◌<◌, [], OnOk, OnErr, IfOk, IsOk, length, Some, true};
 ghost use Rattle.mpi_call.specs.Collectives.{is_member};
 ghost use Rattle.mpi_call.specs.declared.reply.Reply.{Reply};
 ghost use Rattle.run_model.specs.Program.{MayGive};

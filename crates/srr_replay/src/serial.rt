@@ -1,12 +1,12 @@
 //! A whole replay on one thread, from its beginning or from any event of it.
-ghost use Rattle.std.specs.Prelude.{◌≡◌, ◌<◌, ◌≤◌, ◌++◌, ◌∷◌, [], OnOk, OnErr, IfOk, length, map, Some, true, false, ℕ, List};
+ghost use Rattle.std.specs.Prelude.{◌≡◌, ◌<◌, ◌++◌, ◌∷◌, [], OnOk, IfOk, length, map, Some, true, false, ℕ, List};
 ghost use Rattle.mpi_call.specs.Collectives.{is_distinct, is_member};
 ghost use Rattle.run_model.specs.declared.event.Event.{Event};
 ghost use Rattle.run_model.specs.Lists.{IsPrefixOf};
 ghost use Rattle.run_model.specs.Program.{IsAfter};
 ghost use Rattle.run_model.specs.Views.{view_of, replies_in};
 ghost use Rattle.replay_model.specs.Laws.{IsReplayOfEveryRun};
-ghost use Rattle.replay_model.specs.Replays.{IsExhausted, IsWholeReplay, Replays};
+ghost use Rattle.replay_model.specs.Replays.{IsExhausted, IsWholeReplay};
 ghost use Rattle.srr_replay.specs.inside.Kept.{AreCallsOfRuns, IsKeptCall};
 ghost use Rattle.srr_replay.specs.Rounds.{AreReplayedRounds, GrowsBy, HasNoStep, IsReplayable, RunAll, SameReplay, replay_attempt, replay_attempts};
 ghost use Rattle.replay_model.specs.Stands.{IsReplayed, stand_of};

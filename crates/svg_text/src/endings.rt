@@ -1,12 +1,10 @@
 //! Beside the lanes: who waits for whom, and how each rank ended.
-ghost use Rattle.std.specs.Prelude.{◌≡◌, ◌+◌, ◌*◌, ◌≤◌, ◌<◌, ◌^◌, ◌++◌, ◌∷◌, [], ℕ, List, IfOk, OnOk, Option, Some, codes, flat_map, length, option_map, slice_index_or, take};
+ghost use Rattle.std.specs.Prelude.{◌≡◌, ◌+◌, ◌*◌, ◌≤◌, ◌<◌, ◌^◌, ◌++◌, ◌∷◌, [], IfOk, OnOk, Option, Some, codes, flat_map, length, option_map, slice_index_or, take};
 ghost use Rattle.svg_text.specs.declared.endings.TheConstants.{MOST_CHARACTERS, MOST_CYCLES};
 ghost use Rattle.std.specs.List.{list_any};
-ghost use Rattle.run_model.specs.declared.ending.Ending.{Ending as EndingSpec};
-ghost use Rattle.run_text.specs.CallTexts.{joined, numbers_text};
 ghost use Rattle.wiz_base.specs.Decimals.{decimal_text};
-ghost use Rattle.svg_text.specs.Endings.{arc_out, arc_text, arc_to, arcs_of, arcs_of_rank, arcs_of_wait, arrives_at, beside, beside_by, beside_text, beside_texts, blocked_rank, blocked_of, byte_text, drawn_cycle_text, cycles_of, cycles_text, dots_text, has_ended_text, drawn_ending_text, entering_text, endings_text, farthest, is_blocked, leaves_at, longest, awaited_message_text, drawn_output_text, plain_text, receiver_text, round_text, awaited_source_text, style_text, awaited_tag_text, drawn_wait_text, drawn_waiting_text};
-ghost use Rattle.svg_text.specs.Grids.{distance, y_of};
+ghost use Rattle.svg_text.specs.Endings.{arc_out, arc_text, arc_to, arcs_of, arcs_of_wait, arrives_at, beside, beside_text, beside_texts, blocked_rank, blocked_of, byte_text, drawn_cycle_text, cycles_of, cycles_text, dots_text, has_ended_text, drawn_ending_text, entering_text, endings_text, farthest, is_blocked, leaves_at, longest, awaited_message_text, drawn_output_text, plain_text, receiver_text, round_text, awaited_source_text, style_text, awaited_tag_text, drawn_wait_text, drawn_waiting_text};
+ghost use Rattle.svg_text.specs.Grids.{distance};
 
 use crate::filling::{Filler, push_filled};
 use crate::grid::{Grid, distance};

@@ -1,10 +1,9 @@
 //! The marks of calls.
-ghost use Rattle.std.specs.Prelude.{◌≡◌, ◌≤◌, ◌<◌, ◌^◌, ◌++◌, IfOk, OnOk, List, ℕ, Some, codes, slice_get, slice_index};
+ghost use Rattle.std.specs.Prelude.{◌≡◌, ◌≤◌, ◌<◌, ◌^◌, ◌++◌, IfOk, OnOk, Some, codes};
 ghost use Rattle.run_model.specs.Views.{view_of};
 ghost use Rattle.run_text.specs.CallTexts.{kind_text};
 ghost use Rattle.wiz_base.specs.Decimals.{decimal_text};
-ghost use Rattle.svg_text.specs.Grids.{x_of, y_of};
-ghost use Rattle.svg_text.specs.Marks.{any_label_text, below_text, call_shape, cross_text, diamond_text, done_text, end_text, enter_text, sources_label_text, label_begin, label_text, titled_mark_text, seen_mark_text, drawn_mark_text, post_by, post_text, drawn_send_text, shape_text, message_sources, sources_in, sources_of, spot_of, take_text, title_text, wild_text};
+ghost use Rattle.svg_text.specs.Marks.{any_label_text, below_text, call_shape, cross_text, diamond_text, done_text, end_text, enter_text, sources_label_text, label_begin, label_text, titled_mark_text, drawn_mark_text, post_by, post_text, drawn_send_text, shape_text, message_sources, sources_in, sources_of, spot_of, take_text, title_text};
 
 use crate::filling::{Filler, push_filled};
 use crate::grid::Grid;

@@ -1,8 +1,8 @@
 //! The shapes of a drawing: lanes, bars and arrows.
 ghost use Rattle.std.specs.Prelude.{◌≡◌, ◌-◌, ◌≤◌, ◌<◌, ◌^◌, ◌++◌, OnOk, Some, flat_map, nat_lt, slice_index};
 ghost use Rattle.svg_text.specs.declared.grid.Grid.TheVariants.{Dense, Wide};
-ghost use Rattle.svg_text.specs.Grids.{x_of, y_of};
-ghost use Rattle.svg_text.specs.Shapes.{arrow_text, bar_text, line_ends_text, choice_text, message_choices_text, choices_text, collective_text, dense_lane, ends_text, gray_text, lane_text, latest_text, message_arrow_text, received_message_text, drawn_probe_text, receive_colour, drawn_receive_text, stub_down, stub_text, taken_colour, unreceived_text, wide_lane, wild_arrow};
+ghost use Rattle.svg_text.specs.Grids.{x_of};
+ghost use Rattle.svg_text.specs.Shapes.{arrow_text, bar_text, line_ends_text, choice_text, choices_text, collective_text, ends_text, gray_text, lane_text, latest_text, received_message_text, drawn_probe_text, receive_colour, drawn_receive_text, stub_down, stub_text, taken_colour, unreceived_text, wild_arrow};
 
 use crate::filling::{Filler, push_filled};
 use crate::grid::{Grid, long_side, short_of};

@@ -3,10 +3,10 @@ ghost use Rattle.std.specs.Prelude.{◌≡◌, ◌+◌, ◌-◌, ◌≤◌, ◌<
 ghost use Rattle.svg_text.specs.declared.endings.TheConstants.{MOST_CYCLES};
 ghost use Rattle.run_model.specs.Views.{view_of};
 ghost use Rattle.svg_text.specs.Endings.{arc_text, arcs_of, beside, beside_texts, blocked_of, cycles_of, cycles_text, endings_text, farthest, longest};
-ghost use Rattle.svg_text.specs.Grids.{bottom_of, grid_by, right_of};
+ghost use Rattle.svg_text.specs.Grids.{bottom_of};
 ghost use Rattle.svg_text.specs.Marks.{drawn_mark_text};
-ghost use Rattle.svg_text.specs.Shapes.{choices_text, collective_text, lane_text, received_message_text, drawn_probe_text, drawn_receive_text, unreceived_text};
-ghost use Rattle.svg_text.specs.SvgTexts.{choices_legend, count_raced, count_wild, end_text, frame_text, ground_text, groups_in, had_choice, arrow_head_text, heading_text, heads_text, high_of, lanes_text, legend_text, picture_text, plural_text, remarks_of, shapes_text, sheet_of, sides_text, some_choice, style_text, subtitle_text, svg_text, took_any, top_text, wide_of};
+ghost use Rattle.svg_text.specs.Shapes.{choices_text, collective_text, received_message_text, drawn_probe_text, drawn_receive_text, unreceived_text};
+ghost use Rattle.svg_text.specs.SvgTexts.{choices_legend, count_raced, count_wild, end_text, frame_text, ground_text, groups_in, had_choice, arrow_head_text, heading_text, heads_text, lanes_text, legend_text, picture_text, plural_text, remarks_of, shapes_text, sheet_of, style_text, subtitle_text, svg_text, top_text, wide_of};
 
 use crate::endings::{
     Arc, arcs_of, beside, beside_texts, blocked_of, cycles_of, farthest, longest, push_arc,

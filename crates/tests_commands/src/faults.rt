@@ -5,7 +5,7 @@ use crate::words::asks_for_threads;
 use std::alloc::Global;
 use std::sync::Wait;
 use std::thread::Threads;
-use wiz_base::{Bytes, decimal};
+use wiz_base::decimal;
 use wiz_cli::top::wiz_serial;
 use wiz_io::{MemorySink, MemoryStore};
 

@@ -1,5 +1,5 @@
 -- The drawing of a run as trace events in JSON: a group is a process, a rank a thread, a column a microsecond.
-use Rattle.std.specs.Prelude.{◌+◌, ◌-◌, ℕ, suc, List, [], ◌∷◌, ◌++◌, Option, Some, None, Bool, codes, flat_map, if◌then◌else◌, length, max, slice_get, slice_index}
+use Rattle.std.specs.Prelude.{◌+◌, ℕ, List, [], ◌∷◌, ◌++◌, Option, Some, None, codes, flat_map, length, max, slice_get, slice_index}
 use Rattle.mpi_call.specs.declared.call.Call.{Call}
 use Rattle.mpi_call.specs.declared.call.Call.TheVariants.{Send, Post, Enter, Take, Peek, Abort, Trap, End}
 use Rattle.mpi_call.specs.declared.reply.Reply.{Reply}

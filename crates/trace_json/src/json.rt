@@ -2,7 +2,7 @@
 ghost use Rattle.std.specs.Prelude.{◌≡◌, ◌+◌, ◌++◌, IfOk, OnOk, flat_map, slice_index};
 ghost use Rattle.msg_races.specs.Listing.{lists_below as for_ranks};
 ghost use Rattle.run_model.specs.Views.{view_of};
-ghost use Rattle.trace_json.specs.JsonTexts.{args_text, flow_by, flow_name, flow_text, flows_text, group_name_text, groups_text, trace_head_text, last_group, event_name_text, place_text, rank_name_text, span_by, span_text, trace_json, verb_text};
+ghost use Rattle.trace_json.specs.JsonTexts.{args_text, flow_by, flow_name, flow_text, flows_text, group_name_text, groups_text, last_group, event_name_text, place_text, rank_name_text, span_by, span_text, trace_json, verb_text};
 
 use mpi_call::call::Call;
 use mpi_call::reply::Reply;

@@ -1,5 +1,5 @@
 //! How a lock begins, with one token that is split into seats, and how it ends, with the seats joined again.
-ghost use Rattle.std.specs.Prelude.{◌≡◌, ℕ, ◌<◌, ◌≤◌, [], ◌∷◌, All, IfOk, Some, vec_len};
+ghost use Rattle.std.specs.Prelude.{◌≡◌, ℕ, ◌<◌, ◌≤◌, [], All, IfOk, Some, vec_len};
 ghost use Rattle.turn_lock.specs.declared.lock.TheConstants.{MOST_SEATS};
 ghost use Rattle.turn_lock.specs.inside.Ends.{accounts_at, IsIdleAt, HasAccount, EndsWith};
 ghost use Rattle.turn_lock.specs.Rule.{first_view};

@@ -1,5 +1,5 @@
 //! A seat, and what its holder works on.
-ghost use Rattle.std.specs.Prelude.{◌≡◌, ◌<◌, ◌∷◌, [], false, Some};
+ghost use Rattle.std.specs.Prelude.{◌≡◌, ◌<◌, ◌∷◌, [], false};
 ghost use Rattle.turn_lock.specs.Rule.{account, idle_view};
 ghost use Rattle.turn_lock.specs.Seat.{new_seat, lock_on};
 ghost use Rattle.turn_lock.specs.declared.view.Stage.TheVariants.{Idle};

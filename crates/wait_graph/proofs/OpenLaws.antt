@@ -1,34 +1,29 @@
 -- What is open to a blocked rank differs from what it waits for.
-use Rattle.std.proofs.Common.{◌≡◌, ◌≢◌, ◌<◌, ◌∙◌, ◌+◌, ◌++◌, ◌∷◌, ◌&&◌, ◌==◌, ◌⊎◌, [], ℕ, ℤ, zero, suc, Bool, List, Option, None, Some, false, true, inl, inr, ap, arith, is_some, nat_lt, not, refl, slice_get, subst, sym}
-use Rattle.std.proofs.lemmas.Bool.{and_parts, eqb-true, ltb-true, or_cases, or_left, or_parts, or_right, eq-eqb}
+use Rattle.std.proofs.Common.{◌≡◌, ◌<◌, ◌∙◌, ◌+◌, ◌++◌, ◌∷◌, ◌&&◌, ◌==◌, [], ℕ, ℤ, zero, suc, Bool, List, Option, None, Some, false, true, inl, inr, ap, arith, is_some, nat_lt, not, refl, slice_get, subst, sym}
+use Rattle.std.proofs.lemmas.Bool.{and_parts, eqb-true, ltb-true, or_parts}
 use Rattle.mpi_call.specs.declared.call.Call.{Call}
 use Rattle.mpi_call.specs.declared.call.Call.TheVariants.{Abort, End, Enter, Peek, Post, Send, Take, Trap}
-use Rattle.mpi_call.specs.declared.call.Halt.TheVariants.{Stuck}
 use Rattle.mpi_call.specs.declared.call.Source.{Source}
 use Rattle.mpi_call.specs.declared.call.Source.TheVariants.{Any, From, Null}
 use Rattle.mpi_call.specs.declared.call.Tag.{Tag}
 use Rattle.mpi_call.specs.declared.reply.Reply.{Reply}
 use Rattle.mpi_call.specs.Calls.{is_starting}
 use Rattle.mpi_call.specs.Lists.{IsIn}
-use Rattle.mpi_call.specs.Members.{is_member}
 use Rattle.run_model.specs.declared.event.Event.{Event}
 use Rattle.run_model.specs.Allowed.{can_go, has_open, is_prompt}
-use Rattle.run_model.specs.Due.{due, halted}
+use Rattle.run_model.specs.Due.{due}
 use Rattle.run_model.specs.Lists.{are_below, world}
 use Rattle.run_model.specs.Pairs.{IsMatched, Name, named, pairs_of, partner_of}
-use Rattle.run_model.specs.Program.{AsksInBounds}
 use Rattle.run_model.specs.Readiness.{is_ready}
 use Rattle.run_model.specs.Run.{IsRun}
-use Rattle.run_model.specs.Serial.{call_after}
 use Rattle.run_model.specs.Views.{Next, View, is_done, is_start, moment_at, start_at, starts_of, view_of}
-use Rattle.run_model.proofs.MemberLists.{AreMembers-world}
 use Rattle.run_model.proofs.RunLaws.{IsRun-front, Lawful, kept_run}
 use Rattle.run_model.proofs.Views.{option_cases, test_cases}
 use Rattle.wait_graph.specs.declared.message.Open.{Open}
 use Rattle.wait_graph.specs.declared.wait.Wait.{Wait}
 use Rattle.wait_graph.specs.Going.{going, halting}
-use Rattle.wait_graph.specs.Laws.{DiffersFrom, IsDead, IsEndedRun, OpensDiffer}
-use Rattle.wait_graph.specs.Opens.{differences, first_open_send, listed_open, open_send, open_send_from, opens_of, opens_to, or_open}
+use Rattle.wait_graph.specs.Laws.{DiffersFrom, IsDead, OpensDiffer}
+use Rattle.wait_graph.specs.Opens.{first_open_send, listed_open, open_send_from, opens_of}
 use Rattle.wait_graph.specs.Waits.{awaited_by, wait_at, waits_at, waits_in}
 use Rattle.wait_graph.proofs.FoundLemmas.{below_all}
 use Rattle.wait_graph.proofs.Fitting.{none_fits, none_found}

@@ -14,7 +14,7 @@ use Rattle.run_model.specs.Views.{View, start_at}
 use Rattle.run_model.proofs.Views.{test_cases}
 use Rattle.wait_graph.specs.declared.message.Taken.{Taken}
 use Rattle.wait_graph.specs.declared.taken.InboundWay.{InboundWay}
-use Rattle.wait_graph.specs.Taken.{AreTaken, taken_after_got, taken_after_items, taken_after_reply, asked_of, same_inbound_way, last_taken_from, taken_last}
+use Rattle.wait_graph.specs.Taken.{AreTaken, taken_after_got, taken_after_items, taken_after_reply, asked_of, same_inbound_way, last_taken_from}
 
 taken_both : (comm : ℕ) (tag : Tag) (sender : ℕ) (before xs ys : View) (known : Option Taken)
     → last_taken_from (asked_of comm tag sender) before (xs ++ ys) known ≡ last_taken_from (asked_of comm tag sender) (before ++ xs) ys (last_taken_from (asked_of comm tag sender) before xs known)

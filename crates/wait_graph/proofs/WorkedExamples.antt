@@ -1,7 +1,7 @@
 -- Small runs that are stuck, and who waits for whom there.
-use Rattle.std.proofs.Common.{◌≡◌, List, [], ◌∷◌, ◌++◌, ℕ, zero, suc, Option, None, Some, true, false, refl}
+use Rattle.std.proofs.Common.{◌≡◌, List, [], ◌∷◌, ◌++◌, ℕ, zero, suc, Option, None, Some, false, refl}
 use Rattle.mpi_call.specs.declared.call.Call.{Call}
-use Rattle.mpi_call.specs.declared.call.Call.TheVariants.{End, Enter, Peek, Post, Send, Take}
+use Rattle.mpi_call.specs.declared.call.Call.TheVariants.{End, Enter, Post, Send, Take}
 use Rattle.mpi_call.specs.declared.call.Halt.TheVariants.{Stuck}
 use Rattle.mpi_call.specs.declared.call.Kind.TheVariants.{Barrier}
 use Rattle.mpi_call.specs.declared.call.Source.TheVariants.{Any, From, Null}
@@ -13,13 +13,10 @@ use Rattle.mpi_call.specs.declared.reply.Reply.TheVariants.{Done, Stopped, Took}
 use Rattle.run_model.specs.declared.event.Event.{Event}
 use Rattle.run_model.specs.Views.{view_of}
 use Rattle.wait_graph.specs.declared.difference.Difference.TheVariants.{Comm, Source as BySource, Tag as ByTag}
-use Rattle.wait_graph.specs.declared.graph.Blocked.{Blocked}
-use Rattle.wait_graph.specs.declared.message.Open.{Open}
-use Rattle.wait_graph.specs.declared.message.Taken.{Taken}
 use Rattle.wait_graph.specs.declared.wait.Wait.{Wait}
-use Rattle.wait_graph.specs.Going.{going, halting, stopped_call}
-use Rattle.wait_graph.specs.Graph.{blocked_in, cycle_from, cycles, graph_of, hopeless, is_live, waited_rank}
-use Rattle.wait_graph.specs.Opens.{differences, first_open_send, opens_to}
+use Rattle.wait_graph.specs.Going.{going, stopped_call}
+use Rattle.wait_graph.specs.Graph.{cycle_from, cycles, graph_of, hopeless, is_live, waited_rank}
+use Rattle.wait_graph.specs.Opens.{differences, opens_to}
 use Rattle.wait_graph.specs.Taken.{taken_last}
 use Rattle.wait_graph.specs.Waits.{senders, waits_at}
 

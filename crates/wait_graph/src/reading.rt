@@ -2,7 +2,7 @@
 ghost use Rattle.std.specs.Prelude.{◌≡◌, ◌<◌, ◌^◌, IfOk, length, option_map};
 ghost use Rattle.run_model.specs.Due.{stops};
 ghost use Rattle.causes.specs.Clocks.{AreOfRanks};
-ghost use Rattle.wait_graph.specs.Going.{first_call, halting};
+ghost use Rattle.wait_graph.specs.Going.{first_call};
 ghost use Rattle.wait_graph.specs.Reading.{IsRunRead};
 ghost use Rattle.run_model.specs.Views.{view_of};
 

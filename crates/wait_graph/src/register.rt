@@ -1,5 +1,5 @@
 //! What is kept beside the events of a run.
-ghost use Rattle.std.specs.Prelude.{◌≡◌, ◌+◌, ◌<◌, ◌≤◌, ◌^◌, ◌++◌, ◌∷◌, [], IfOk, OnOk, ℕ, List, is_some, length, option_map, take};
+ghost use Rattle.std.specs.Prelude.{◌≡◌, ◌+◌, ◌<◌, ◌^◌, ◌++◌, ◌∷◌, [], IfOk, OnOk, ℕ, List, is_some, length, option_map, take};
 ghost use Rattle.run_model.specs.declared.event.Event.{Event as EventSpec};
 ghost use Rattle.run_model.specs.Communicators.{count_on, known_in};
 ghost use Rattle.run_model.specs.Pairs.{pairs_of, partner_of};

@@ -1,5 +1,5 @@
 //! The ranks of a run that are stuck, and who of them waits for whom.
-ghost use Rattle.std.specs.Prelude.{◌≡◌, ◌<◌, ◌^◌, ◌++◌, ◌∷◌, ◌&&◌, [], ℕ, List, IfOk, None, OnOk, Some, find, length, not};
+ghost use Rattle.std.specs.Prelude.{◌≡◌, ◌<◌, ◌++◌, ◌&&◌, ℕ, List, IfOk, None, OnOk, Some, find, length, not};
 ghost use Rattle.std.specs.List.{list_all};
 ghost use Rattle.causes.specs.Clocks.{AreOfRanks};
 ghost use Rattle.run_model.specs.declared.event.Event.{Event as EventSpec};
@@ -14,7 +14,7 @@ use crate::cycle::cycles_in;
 use crate::graph::{Blocked, BlockedRanks, Graph};
 use crate::reading::{Run, first_call, read};
 use crate::register::Register;
-use crate::wait::{Wait, Waits};
+use crate::wait::Wait;
 use crate::waits::waits_at;
 use mpi_call::call::{self, Call};
 use mpi_call::lists::Ranks;

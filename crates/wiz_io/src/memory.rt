@@ -1,5 +1,5 @@
 //! Files and an output in memory, whose calls fail where that was asked for.
-ghost use Rattle.std.specs.Prelude.{◌≡◌, ◌≢◌, ◌↔◌, ◌++◌, ◌≤◌, [], None, Some, ℕ, List, OnOk, OnErr, IsErrOf, option_copied};
+ghost use Rattle.std.specs.Prelude.{◌≡◌, ◌≢◌, ◌↔◌, ◌≤◌, [], None, Some, ℕ, List, OnOk, OnErr, IsErrOf, option_copied};
 ghost use Rattle.wiz_io.specs.Calls.{IsNextFailing, no_calls, with_failing};
 ghost use Rattle.wiz_io.specs.Files.{IsFileRead, SetsFile};
 ghost use Rattle.wiz_io.specs.Memory.{memory_of, new_memory, after_read, after_write};

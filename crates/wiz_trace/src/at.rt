@@ -1,5 +1,5 @@
 //! The text of where the ranks of a replay stand.
-ghost use Rattle.std.specs.Prelude.{◌≡◌, ◌++◌, OnOk, IfOk, flat_map};
+ghost use Rattle.std.specs.Prelude.{◌≡◌, ◌++◌, OnOk, IfOk};
 ghost use Rattle.wiz_trace.specs.AtTexts.{ahead_text, snapshots_text, last_text, snapshot_text};
 
 use crate::trace::push_variables;

@@ -1,5 +1,4 @@
 //! A store that keeps a copy of one file as it was read.
-ghost use Rattle.wiz_io.specs.Files.{ObservedFiles};
 
 use wiz_base::Bytes;
 use wiz_io::{ReadFault, Store, WriteFault};

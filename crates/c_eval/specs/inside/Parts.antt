@@ -3,7 +3,7 @@ use Rattle.std.specs.Prelude.{ℤ, pos, Option, Some, None, map}
 use Rattle.c_program.specs.declared.effect.Rank.{Rank}
 use Rattle.c_program.specs.Courses.{Course}
 use Rattle.c_program.specs.Meaning as m
-use Rattle.c_program.specs.Meaning.{Exits, Meaning, Passing, call_at, choose, for_start, for_update, has_room, item_cells, leaving, length_or_one, loop, with_open_call, parameter_cells, step, trying, turn_exits, with_parameters, with_slot}
+use Rattle.c_program.specs.Meaning.{Exits, Meaning, Passing, call_at, for_start, for_update, leaving, loop, step, turn_exits}
 use Rattle.c_program.specs.Performing.{Onward}
 use Rattle.c_program.specs.State.{State, stack_mark}
 use Rattle.c_program.specs.Tree.{TypedExpr, TypedForStart, TypedSimple}

@@ -1,5 +1,5 @@
 -- What the code keeps of the completions of a run: for each its ints, and how far the ranks reach that they came from.
-use Rattle.std.specs.Prelude.{◌≡◌, ◌≤◌, ◌<◌, ◌+◌, ◌-◌, ◌^◌, ℕ, List, [], ◌∷◌, Bool, ◌&&◌, if◌then◌else◌, nat_le, nat_lt, length, slice_index, sum_by}
+use Rattle.std.specs.Prelude.{◌≡◌, ◌≤◌, ◌<◌, ◌+◌, ◌-◌, ◌^◌, ℕ, List, [], ◌∷◌, Bool, ◌&&◌, if◌then◌else◌, nat_le, nat_lt, length, sum_by}
 use Rattle.std.specs.List.{slice_index_or}
 use Rattle.mpi_call.specs.declared.call.Call.{Call}
 use Rattle.mpi_call.specs.declared.reply.Got.{Got}

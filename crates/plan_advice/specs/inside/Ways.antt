@@ -1,5 +1,5 @@
 -- The cheapest ways to cut the first ranks, as they are found.
-use Rattle.std.specs.Prelude.{◌≡◌, ◌≤◌, ◌<◌, ◌+◌, ◌*◌, ◌^◌, ℕ, List, [], length, slice_index}
+use Rattle.std.specs.Prelude.{◌≡◌, ◌≤◌, ◌<◌, ◌+◌, ◌*◌, ◌^◌, ℕ, List, length, slice_index}
 use Rattle.plan_advice.specs.declared.ways.LastBlock.{LastBlock}
 use Rattle.plan_advice.specs.declared.ways.Ways.{Ways}
 use Rattle.plan_advice.specs.Cuttings.{AreEnds, AreLeast, IsBlock, IsCertificate, IsLeastReached, IsReached, cost_from}

@@ -1,5 +1,5 @@
 //! `watch LOG R NAME`, `at LOG R:C`, `where LOG S.K`: the group of a log is replayed, and what is asked of the replay is told.
-ghost use Rattle.std.specs.Prelude.{◌≡◌, [], List, ℕ, IfOk};
+ghost use Rattle.std.specs.Prelude.{[], IfOk};
 ghost use Rattle.c_program.specs.View.{pure_program};
 ghost use Rattle.c_types.specs.Checks.{IsProgramOf};
 ghost use Rattle.srr_replay.specs.Rounds.{IsReplayable};

@@ -5,7 +5,7 @@ use Rattle.c_names.specs.declared.kind.VariableKind.TheVariants.{Int}
 use Rattle.c_program.specs.Tree as pure
 use Rattle.c_program.specs.View.{pure_call, pure_right}
 use Rattle.c_scope.specs.Kinds.{kind_faults}
-use Rattle.c_scope.specs.Typing.{Typing, also, behind, onto, refused}
+use Rattle.c_scope.specs.Typing.{also, behind, onto, refused}
 use Rattle.c_scope.specs.Walks.{Gives}
 use Rattle.c_scope.specs.declared.meaning.ExprKind.TheVariants.{Of}
 use Rattle.c_scope.proofs.Gives.{walked_onto}

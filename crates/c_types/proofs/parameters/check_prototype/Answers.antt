@@ -1,7 +1,4 @@
-use Rattle.std.proofs.Common.{◌∙◌, ap, sym, drop}
-use Rattle.c_scope.specs.Least.{least_fault_from}
-use Rattle.c_types.specs.Programs.{prototype_faults}
-use Rattle.c_types.proofs.ParameterLoops.{behind_first, prototype_end, prototype_next}
+use Rattle.c_types.proofs.ParameterLoops.{prototype_end, prototype_next}
 use Rattle.c_types.proofs.parameters.check_prototype.Goals as goal
 
 pub loop-behind-preserved : goal.loop-behind-preserved

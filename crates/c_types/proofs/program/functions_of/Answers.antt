@@ -1,4 +1,4 @@
-use Rattle.std.proofs.Common.{[], is_none, map, ◌||◌}
+use Rattle.std.proofs.Common.{[], map}
 use Rattle.c_grammar.specs.StmtView.{external_view}
 use Rattle.c_program.specs.View.{pure_function}
 use Rattle.c_types.specs.ProgramTyping.{functions_typing}

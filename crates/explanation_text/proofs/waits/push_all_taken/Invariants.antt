@@ -1,4 +1,4 @@
-use Rattle.std.proofs.Common.{◌≡◌, ◌++◌, ℕ, List, flat_map, length}
+use Rattle.std.proofs.Common.{◌≡◌, ◌++◌, ℕ, List, length}
 use Rattle.run_model.specs.declared.event.Event.{Event}
 use Rattle.wait_graph.specs.Register.{IsRegister}
 use Rattle.run_model.specs.Views.{view_of}

@@ -1,4 +1,4 @@
-use Rattle.std.proofs.Common.{◌≡◌, ◌∙◌, ◌==◌, ◌++◌, List, ℕ, Bool, ap, codes, flat_map}
+use Rattle.std.proofs.Common.{◌∙◌, ◌==◌, ◌++◌, List, ℕ, Bool, ap, codes, flat_map}
 use Rattle.std.proofs.lemmas.Result.{on_ok_weaker}
 use Rattle.mpi_call.specs.Acceptance.{source_agrees}
 use Rattle.srr_log.specs.EntryText.{name_text}

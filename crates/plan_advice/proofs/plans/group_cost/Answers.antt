@@ -1,4 +1,4 @@
-use Rattle.std.proofs.Common.{◌≡◌, ◌≤◌, ◌^◌, ◌∙◌, ap, arith}
+use Rattle.std.proofs.Common.{◌≡◌, ◌∙◌, ap, arith}
 use Rattle.plan_advice.specs.Costs.{group_cost, ints_in_log}
 use Rattle.plan_advice.proofs.Given.{group_views}
 use Rattle.plan_advice.proofs.Sizes.{group_small}

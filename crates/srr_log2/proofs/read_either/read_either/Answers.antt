@@ -1,5 +1,5 @@
 use Rattle.std.proofs.Common.{sym, ◌∙◌, inl, inr}
-use Rattle.srr_log2.proofs.FormatLaws.{differ, is_1, is_2}
+use Rattle.srr_log2.proofs.FormatLaws.{differ, is_2}
 use Rattle.srr_log2.proofs.read_either.read_either.Goals as goal
 
 pub returns-else-is_format2-clause-only_log : goal.returns-else-is_format2-clause-only_log

@@ -1,4 +1,4 @@
-use Rattle.std.proofs.Common.{◌+◌, [], ◌∷◌, arith, length-append, slice_index}
+use Rattle.std.proofs.Common.{[], ◌∷◌, arith, length-append, slice_index}
 use Rattle.run_model.specs.Program.{IsAfter}
 use Rattle.wiz_task.proofs.RunLemmas.{each_more, started}
 use Rattle.srr_replay.proofs.LogLemmas.{below_at}

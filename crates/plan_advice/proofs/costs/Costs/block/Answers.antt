@@ -1,4 +1,4 @@
-use Rattle.std.proofs.Common.{◌∙◌, ap, arith, sym}
+use Rattle.std.proofs.Common.{◌∙◌, ap, arith}
 use Rattle.plan_advice.specs.Costs.{block_cost}
 use Rattle.plan_advice.specs.inside.Pieces.{Costed, block_ranks, kept_by}
 use Rattle.plan_advice.proofs.Totals.{block_is}
