@@ -1,6 +1,6 @@
 #!/usr/bin/env python3
-"""One name for one thing: the names that stand in two crates or more, the definitions that take seven arguments or more, and the
-limits that stand as bare numbers where their constants should.
+"""One name for one thing: the names that stand in two crates or more, the definitions that take seven arguments or more, the limits
+that stand as bare numbers where their constants should, and the definitions that no line says anything of.
 
     .ci/names.py             prints them
     .ci/names.py --check     compares them with the list .ci/names.txt; status 1 where one is new, or one that is listed is gone
@@ -9,7 +9,8 @@ limits that stand as bare numbers where their constants should.
 A definition is one of `specs/`, whether private or not; a type is a struct, enum, trait or alias of `src/`, or a type that a trait asks
 for (what an implementation gives for it is no name of its own). A limit is a constant of `src/` of at least 1,000, and it stands bare
 in `specs/` where its number does, which another constant may have too; the page that tells a reader the numbers of all limits is the
-place for them. Crates of tests and benchmarks do not count: nobody reads them to learn a word.
+place for them. What a definition is stands in a line above it, or above the `mutual` that it begins. Crates of tests and benchmarks
+do not count: nobody reads them to learn a word.
 """
 import importlib.util
 import re
@@ -28,6 +29,9 @@ LIMIT = re.compile(r"^\s*(?:pub(?:\([a-z]+\))? )?const (\w+): [ui]\w+ = ([\d_]+)
 NUMBER = re.compile(r"(?<![\w.'])\d+(?![\w'])")
 TEXT = re.compile(r'"(?:[^"\\\n]|\\.)*"|--.*')
 PARAMETERS = re.compile(r"\(([^():]+):")
+DEFINITION = re.compile(r"^(?:(?:abbrev|unfoldable) (?:pub )?(\S+) : |(?:pub )?(?:record|data) (\S+))")
+DEFINITION_IN_MUTUAL = re.compile(r"^  (?:pub )?(?:(?:record|data) (\S+)|([^\s:()]+) : )")
+MUTUAL = re.compile(r"^(?:(?:abbrev|unfoldable) )?mutual$")
 BRACKETS = re.compile(r"[({\[][^(){}\[\]]*[)}\]]")
 
 
@@ -91,6 +95,26 @@ def arguments_of(head):
     return max(named, head.count("→"))
 
 
+def definitions_unsaid(lines):
+    """The names of the definitions that no comment stands above."""
+    in_mutual = False
+    for at, line in enumerate(lines):
+        if line and not line.startswith(" "):
+            in_mutual = bool(MUTUAL.match(line))
+        found = (DEFINITION_IN_MUTUAL if in_mutual else DEFINITION).match(line)
+        above = at - 2 if found and MUTUAL.match(lines[at - 1]) else at - 1
+        if found and not lines[above].lstrip().startswith("-- "):
+            yield next(name for name in found.groups() if name)
+
+
+def unsaid():
+    """The definitions that no comment stands above, by their files."""
+    for path in sorted((TOP / "crates").glob("*/specs/**/*.antt")):
+        if is_read(path.relative_to(TOP / "crates").parts[0]):
+            for name in definitions_unsaid(path.read_text().splitlines()):
+                yield f"{path.relative_to(TOP)}: {name}"
+
+
 def sections():
     sources = statement().read_sources()
     twins = in_two_crates((name, crate) for (crate, _), source in sources.items() for name in source.definitions)
@@ -105,6 +129,7 @@ def sections():
         "types that stand in two crates or more": in_two_crates(types()),
         f"definitions of more than {MOST_ARGUMENTS} arguments": long,
         "limits that stand as bare numbers": sorted(set(bare_limits())),
+        "definitions that no line says anything of": list(unsaid()),
     }
 
 

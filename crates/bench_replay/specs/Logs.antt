@@ -5,6 +5,7 @@ use Rattle.srr_entry.specs.declared.entry.Entry.TheVariants.{Sent, Posted, Ended
 use Rattle.srr_entry.specs.declared.entry.Mark.TheVariants.{Inside}
 use Rattle.srr_entry.specs.declared.log.Log.{Log}
 
+-- the entry of a receive that took the message of a start
 abbrev pub took : ℕ → Entry
 took start = Took ((record { index = 0; mark = Inside 0 start }) ∷ [])
 
@@ -13,6 +14,7 @@ abbrev pub receives : ℕ → List Entry
 receives zero = []
 receives (suc start) = receives start ++ Posted ∷ took start ∷ []
 
+-- the log of the script with so many messages
 abbrev pub log_of : ℕ → Log
 log_of messages = record {
   ranks = 2;

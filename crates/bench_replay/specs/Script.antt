@@ -15,6 +15,7 @@ abbrev pub calls_of : ℕ → ℕ → ℕ → ℕ
 calls_of messages n rank =
     if nat_lt 1 n then (if rank == 0 then messages else (if rank == 1 then 2 * messages else 0)) else 0
 
+-- the receiver's calls: it posts a receive and completes it, in turn
 abbrev pub receive_at : ℕ → Call
 receive_at k = if k % 2 == 0 then Post 0 (From 0) (Is 0) 1 else Take (k / 2 ∷ []) All
 
@@ -23,6 +24,7 @@ abbrev pub call_at : ℕ → ℕ → ℕ → ℕ → Call
 call_at messages n rank k =
     if nat_lt k (calls_of messages n rank) then (if rank == 0 then Send 0 1 0 (pos 7 ∷ []) false else receive_at k) else End
 
+-- a reply that stops its rank
 abbrev pub is_stopped : Reply → Bool
 is_stopped (Stopped halt) = true
 is_stopped reply = false
@@ -31,6 +33,7 @@ is_stopped reply = false
 abbrev pub is_over : ℕ → ℕ → ℕ → List Reply → Bool
 is_over messages n rank replies = list_any is_stopped replies || nat_lt (calls_of messages n rank) (length replies)
 
+-- what a rank calls after these replies, or nothing where it is over
 abbrev pub next_of : ℕ → Next
 next_of messages n rank replies =
     if is_over messages n rank replies then None else Some (call_at messages n rank (length replies))

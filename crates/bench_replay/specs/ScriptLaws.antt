@@ -119,6 +119,7 @@ end_ends n me own (Took items) shape = absurd (cc)
 end_ends n me own NotYet shape = absurd (cc)
 end_ends n me own (Peeked s t g c) shape = absurd (cc)
 
+-- a view has an end where the script is over
 abbrev EndsThere : ℕ → ℕ → ℕ → View → Type 0
 EndsThere messages n rank view = list_any ends view ≡ is_over messages n rank (replies_in view)
 
@@ -169,6 +170,7 @@ ends_exactly messages n rank view ranks along =
 
 -- 2. calls are in bounds, and none is a collective
 
+-- a call that is in bounds and in form
 abbrev IsProper : ℕ → ℕ → View → Call → Type 0
 IsProper n me own call = IsCallInBounds n (length own) call × IsInForm n me own call
 

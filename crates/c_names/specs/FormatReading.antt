@@ -10,13 +10,15 @@ use Rattle.c_names.specs.declared.format.FormatPiece.{FormatPiece}
 use Rattle.c_names.specs.declared.format.FormatPiece.TheVariants.{Byte, Int}
 use Rattle.c_names.specs.declared.format.FormatStep.{FormatStep}
 
--- no piece ends at this byte, or one does
+-- a byte at which no piece ends
 abbrev pub on : Before → Option FormatStep
 on before = Some (record { before = before; piece = None })
 
+-- a byte that ends a piece
 abbrev pub end : FormatPiece → Option FormatStep
 end piece = Some (record { before = Pieces; piece = Some piece })
 
+-- a byte that ends a conversion: `d` and `i` in base ten, `x` in base sixteen
 abbrev pub converts : Filling → ℕ → ℕ → Option FormatStep
 converts filling width byte =
     if (byte == 100) || (byte == 105) then end (Int filling width Decimal)
@@ -28,6 +30,7 @@ abbrev pub begins_width : Filling → ℕ → Option FormatStep
 begins_width filling byte =
     if nat_le 49 byte && nat_le byte 57 then on (Wide filling (byte - 48)) else converts filling 0 byte
 
+-- what a byte does to a format, by what stands before it
 abbrev pub step_of : Before → ℕ → Option FormatStep
 step_of Pieces byte = if byte == 92 then on Escape else (if byte == 37 then on Percent else end (Byte byte))
 step_of Escape byte = option_map (λ byte. record { before = Pieces; piece = Some (Byte byte) }) (escaped byte)
@@ -57,5 +60,6 @@ pieces_from Pieces [] = Some []
 pieces_from before [] = None
 pieces_from before (byte ∷ bytes) = goes_on (step_of before byte) (λ before. pieces_from before bytes)
 
+-- the pieces of a format, or nothing where its bytes spell none
 abbrev pub format_pieces : List ℕ → Option (List FormatPiece)
 format_pieces bytes = pieces_from Pieces bytes

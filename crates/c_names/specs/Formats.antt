@@ -54,6 +54,7 @@ abbrev pub ints_taken_by : Option FormatPiece → ℕ
 ints_taken_by (Some (Int filling width base)) = 1
 ints_taken_by _ = 0
 
+-- how many ints the pieces of a format take
 abbrev pub ints_taken : List FormatPiece → ℕ
 ints_taken [] = 0
 ints_taken (piece ∷ pieces) = ints_taken_by (Some piece) + ints_taken pieces

@@ -7,6 +7,7 @@ use Rattle.c_names.specs.declared.function.ArgumentKind.TheVariants.{Number, Buf
 use Rattle.c_names.specs.declared.predefined.Predefined.{Predefined}
 use Rattle.c_names.specs.declared.predefined.Predefined.TheVariants as p
 
+-- the arguments of each function, in the order of its C binding
 abbrev pub arguments : MpiFunction → List ArgumentKind
 arguments f.Init = ArgumentCount ∷ ArgumentTexts ∷ []
 arguments f.Finalize = []

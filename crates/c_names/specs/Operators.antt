@@ -37,6 +37,7 @@ applied o.Times a b = Some (int_wrapping_mul w32 a b)
 applied o.Divide a b = unless_zero b (int_wrapping_div w32 a b)
 applied o.Remainder a b = unless_zero b (int_rem a b)
 
+-- what a sign gives of an int
 abbrev pub unary_applied : UnaryOperator → ℤ → ℤ
 unary_applied s.Minus a = int_wrapping_neg w32 a
 unary_applied s.Plus a = a

@@ -78,5 +78,6 @@ abbrev pub predefined_in : List (List ℕ × Predefined) → List ℕ → Option
 predefined_in [] name = None
 predefined_in (row ∷ rows) name = if bytes_eq row.0 name then Some row.1 else predefined_in rows name
 
+-- what a name stands for, if it stands without a declaration
 abbrev pub predefined : List ℕ → Option Predefined
 predefined name = predefined_in names name

@@ -52,6 +52,7 @@ unary_of w.Plus = s.Plus
 unary_of w.Not = s.Not
 unary_of _ = s.Complement
 
+-- what a name is in a constant expression: the number that it stands for, or a variable; a name without a meaning leaves it open
 abbrev pub constant_meant : Meaning → Constant
 constant_meant (m.Known (p.Number value)) = Value value
 constant_meant (m.Declared (d.Define value)) = Value value
@@ -59,6 +60,7 @@ constant_meant m.LeftOut = Nameless
 constant_meant m.Unknown = Nameless
 constant_meant _ = Variable
 
+-- what an operator gives, if it gives a value
 abbrev pub or_no_value : Option ℤ → Constant
 or_no_value (Some value) = Value value
 or_no_value None = NoValue
@@ -77,14 +79,17 @@ decided o.LogicalOr a = if is_set a then Value (pos 1) else NoValue
 decided o.LogicalAnd a = if is_set a then NoValue else Value (pos 0)
 decided _ a = NoValue
 
+-- what an operator gives of two operands that are constants
 abbrev pub joined_values : Operator → Constant → Constant → Constant
 joined_values operator (Value a) (Value b) = or_no_value (applied operator a b)
 joined_values operator (Value a) NoValue = decided operator a
 joined_values operator a b = NoValue
 
+-- what an operator gives of any two operands
 abbrev pub joined_constants : Operator → Constant → Constant → Constant
 joined_constants operator a b = over a b (joined_values operator a b)
 
+-- what a sign gives of an operand
 abbrev pub unary_constant : UnaryOperator → Constant → Constant
 unary_constant sign (Value value) = Value (unary_applied sign value)
 unary_constant sign other = other
@@ -94,10 +99,12 @@ abbrev pub chosen_value : Constant → Constant → Constant → Constant
 chosen_value (Value test) a b = if is_set test then a else b
 chosen_value test a b = NoValue
 
+-- what `?:` gives of its test and its two branches, of which none may be a variable
 abbrev pub chosen_constant : Constant → Constant → Constant → Constant
 chosen_constant test a b = over test (over a b (Value (pos 0))) (chosen_value test a b)
 
 abbrev mutual
+  -- the value of an expression, before the program runs
   pub constant_of : Env → t.Expr → Constant
   constant_of env (t.number at) = Value (pos (literal_at env.text at))
   constant_of env (t.read place) = place_constant env place
@@ -107,10 +114,12 @@ abbrev mutual
   constant_of env (t.chain level first links) = links_constant env (constant_of env first) links
   constant_of env (t.choice test question taken colon spared) = chosen_constant (constant_of env test) (constant_of env taken) (constant_of env spared)
 
+  -- of a name
   pub place_constant : Env → t.Place → Constant
   place_constant env (t.whole name) = constant_meant (meaning env name)
   place_constant env (t.cell name opening index closing) = Variable
 
+  -- of operators and operands behind a left operand
   pub links_constant : Env → Constant → t.Links → Constant
   links_constant env left t.no_link = left
   links_constant env left (t.link operator at operand rest) = links_constant env (joined_constants (operator_of operator) left (constant_of env operand)) rest
@@ -126,10 +135,12 @@ abbrev mutual
   unknown_name_faults env (t.chain level first links) = unknown_name_faults env first ++ names_in_links env links
   unknown_name_faults env (t.choice test question taken colon spared) = (unknown_name_faults env test ++ unknown_name_faults env taken) ++ unknown_name_faults env spared
 
+  -- those of a place
   pub names_in_place : Env → t.Place → List TypingFault
   names_in_place env (t.whole name) = name_faults (meaning env name) name
   names_in_place env (t.cell name opening index closing) = name_faults (meaning env name) name ++ unknown_name_faults env index
 
+  -- those of operands
   pub names_in_links : Env → t.Links → List TypingFault
   names_in_links env t.no_link = []
   names_in_links env (t.link operator at operand rest) = unknown_name_faults env operand ++ names_in_links env rest
@@ -139,9 +150,11 @@ abbrev pub length_from : Constant → ℕ
 length_from (Value (pos n)) = if nat_le n MOST_ELEMENTS then n else 0
 length_from other = 0
 
+-- how many cells an array has, by the expression between its brackets
 abbrev pub length_of : Env → t.Expr → ℕ
 length_of env e = length_from (constant_of env e)
 
+-- at the first token, an expression that gives no length; one with a name that has no meaning is told at the name
 abbrev pub constant_faults : Constant → ℕ → Span → List TypingFault
 constant_faults Nameless length at = []
 constant_faults other zero at = fault at WrongType

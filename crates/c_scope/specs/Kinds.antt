@@ -17,12 +17,14 @@ use Rattle.c_scope.specs.declared.meaning.Meaning.{Meaning}
 use Rattle.c_scope.specs.declared.meaning.Meaning.TheVariants as m
 use Rattle.c_scope.specs.declared.meaning.Entity.TheVariants as d
 
+-- the kind of variables that a word declares; the word that is left is `int`
 abbrev pub kind_of_symbol : Symbol → VariableKind
 kind_of_symbol w.Status = Status
 kind_of_symbol w.Request = Request
 kind_of_symbol w.Communicator = Communicator
 kind_of_symbol _ = Int
 
+-- whether two kinds are the same
 abbrev pub is_same_kind : VariableKind → VariableKind → Bool
 is_same_kind Int Int = true
 is_same_kind Status Status = true
@@ -59,10 +61,12 @@ target_kind m.LeftOut = Nothing
 target_kind m.Unknown = Nothing
 target_kind _ = Other
 
+-- the kind of what a place holds
 abbrev pub place_kind : Env → t.Place → ExprKind
 place_kind env (t.whole name) = whole_kind (meaning env name)
 place_kind env (t.cell name opening index closing) = cell_kind (meaning env name)
 
+-- the kind of what an expression gives: all but places give an int
 abbrev pub kind_of : Env → t.Expr → ExprKind
 kind_of env (t.read place) = place_kind env place
 kind_of env _ = Of Int
@@ -72,6 +76,7 @@ abbrev pub place_first_token : t.Place → Span
 place_first_token (t.whole name) = name
 place_first_token (t.cell name opening index closing) = name
 
+-- the first token of an expression
 abbrev pub first_token : t.Expr → Span
 first_token (t.number at) = at
 first_token (t.read place) = place_first_token place

@@ -23,13 +23,16 @@ reason_order w.BadFormat = 12
 reason_order w.LeftOut = 13
 reason_order w.NoMemory = 14
 
+-- before another: at an earlier place, or at the same one by a reason that is listed earlier
 abbrev pub is_less : TypingFault → TypingFault → Bool
 is_less a b = nat_lt a.at b.at || ((a.at == b.at) && nat_lt (reason_order a.why) (reason_order b.why))
 
+-- the first of a fault that may be there and another
 abbrev pub take_less : Option TypingFault → TypingFault → Option TypingFault
 take_less None f = Some f
 take_less (Some g) f = if is_less f g then Some f else Some g
 
+-- the first of a fault that may be there and others
 abbrev pub least_fault_from : Option TypingFault → List TypingFault → Option TypingFault
 least_fault_from b [] = b
 least_fault_from b (f ∷ fs) = least_fault_from (take_less b f) fs

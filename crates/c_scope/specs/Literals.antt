@@ -6,10 +6,12 @@ use Rattle.c_lex.specs.declared.limits.TheConstants.{GREATEST_LITERAL}
 use Rattle.c_grammar.specs.declared.terminal.Span.{Span}
 use Rattle.c_scope.specs.Scopes.{token_bytes}
 
+-- each byte is a digit in a base
 abbrev pub all_digits : ℕ → List ℕ → Bool
 all_digits radix [] = true
 all_digits radix (c ∷ cs) = nat_lt (digit_value c) radix && all_digits radix cs
 
+-- a word that is an integer constant: digits in the base that it begins with, of a value that an int can have
 abbrev pub is_literal : List ℕ → Bool
 is_literal word = (nat_lt 0 (length (digits_of word)) && all_digits (base word) (digits_of word)) && nat_le (literal_value word) GREATEST_LITERAL
 

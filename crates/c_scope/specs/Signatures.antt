@@ -12,6 +12,7 @@ use Rattle.c_scope.specs.declared.meaning.Entity.TheVariants as d
 abbrev pub listed : {A : Type 0} → t.CommaList A → List A
 listed (t.comma_list first more) = first ∷ map (λ behind. behind.1) more
 
+-- whether a word is `int`, which a function has in front if it gives a value
 abbrev pub is_int_keyword : Symbol → Bool
 is_int_keyword w.Int = true
 is_int_keyword _ = false
@@ -25,11 +26,13 @@ parameter_takes (t.communicator keyword name) = a.Communicator
 parameter_takes (t.text_pointers keyword star second name) = a.Nothing
 parameter_takes (t.text_array keyword star name opening closing) = a.Nothing
 
+-- the parameters of a function, in order
 abbrev pub parameters_listed : t.Parameters → List t.Parameter
 parameters_listed t.no_parameter = []
 parameters_listed (t.void at) = []
 parameters_listed (t.parameters parameters) = listed parameters
 
+-- what a function takes, and whether it gives a value
 abbrev pub signature_of : t.Head → Signature
 signature_of head = record { gives = is_int_keyword head.result; takes = map parameter_takes (parameters_listed head.listed) }
 

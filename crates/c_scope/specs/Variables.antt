@@ -15,6 +15,7 @@ is_variable (d.Function number) = 0
 is_variable (d.Define value) = 0
 is_variable _ = 1
 
+-- how many variables are declared
 abbrev pub declared_variables : List Entry → ℕ
 declared_variables [] = 0
 declared_variables (opening ∷ rest) = declared_variables rest
@@ -26,6 +27,7 @@ variable_number [] name = 0
 variable_number (opening ∷ rest) name = variable_number rest name
 variable_number (named other entity ∷ rest) name = if bytes_eq other name then declared_variables rest else variable_number rest name
 
+-- the number of the variable whose name is at a token
 abbrev pub variable : Env → Span → ℕ
 variable env name = variable_number env.entries (token_bytes env.text name)
 

@@ -29,6 +29,7 @@ abbrev pub read_format : Span → ℕ → Option (List FormatPiece) → Typing (
 read_format at count None = refused at BadFormat
 read_format at count (Some format) = if ints_taken format == count then typed format else refused at BadFormat
 
+-- a text that is a format of so many ints
 abbrev pub format_typing : Env → Span → ℕ → Typing (List FormatPiece)
 format_typing env at count = read_format at count (format_pieces (without_quotes (token_bytes env.text at)))
 
@@ -48,10 +49,12 @@ abbrev pub stream_meant : Span → Meaning → Typing (Unit {0})
 stream_meant name (m.Known p.Output) = typed tt
 stream_meant name meant = unfit name name meant
 
+-- `stdout`
 abbrev pub stream_typing : Env → t.Argument → Typing (Unit {0})
 stream_typing env (t.value (t.read (t.whole name))) = stream_meant name (meaning env name)
 stream_typing env given = misfit_typing env given
 
+-- a call of `fflush`
 abbrev pub flush_typing : Env → Span → List t.Argument → Typing TypedSimple
 flush_typing env name (stream ∷ []) = onto (λ trace. pure.flush) (stream_typing env stream)
 flush_typing env name given = refused name WrongCount

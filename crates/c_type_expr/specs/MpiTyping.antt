@@ -45,6 +45,7 @@ abbrev pub datatype_meant : Span → Meaning → Typing (Unit {0})
 datatype_meant name (m.Known p.Datatype) = typed tt
 datatype_meant name meant = unfit name name meant
 
+-- `MPI_INT`
 abbrev pub datatype_typing : Env → t.Argument → Typing (Unit {0})
 datatype_typing env (t.value (t.read (t.whole name))) = datatype_meant name (meaning env name)
 datatype_typing env given = misfit_typing env given
@@ -54,6 +55,7 @@ abbrev pub op_meant : Span → Meaning → Typing Op
 op_meant name (m.Known (p.Operation op)) = typed op
 op_meant name meant = unfit name name meant
 
+-- the name of a reduction operation
 abbrev pub op_typing : Env → t.Argument → Typing Op
 op_typing env (t.value (t.read (t.whole name))) = op_meant name (meaning env name)
 op_typing env given = misfit_typing env given
@@ -63,6 +65,7 @@ abbrev pub status_meant : Env → Span → Meaning → Typing (Option Reference)
 status_meant env name (m.Known p.IgnoredStatus) = typed None
 status_meant env name meant = onto Some (alone_typing env Status name meant)
 
+-- `MPI_STATUS_IGNORE`, or a status
 abbrev pub status_typing : Env → t.Argument → Typing (Option Reference)
 status_typing env (t.value (t.read (t.whole name))) = status_meant env name (meaning env name)
 status_typing env given = onto Some (reference_typing env Status given)
@@ -72,6 +75,7 @@ abbrev pub statuses_meant : Env → Span → Meaning → Typing (Option Referenc
 statuses_meant env name (m.Known p.IgnoredStatuses) = typed None
 statuses_meant env name meant = onto Some (alone_typing env Status name meant)
 
+-- `MPI_STATUSES_IGNORE`, or statuses
 abbrev pub statuses_typing : Env → t.Argument → Typing (Option Reference)
 statuses_typing env (t.value (t.read (t.whole name))) = statuses_meant env name (meaning env name)
 statuses_typing env given = onto Some (reference_typing env Status given)
@@ -114,6 +118,7 @@ abbrev pub null_meant : Span → Meaning → Typing (Unit {0})
 null_meant name (m.Known p.NoReference) = typed tt
 null_meant name meant = unfit name name meant
 
+-- `NULL`
 abbrev pub null_typing : Env → t.Argument → Typing (Unit {0})
 null_typing env (t.value (t.read (t.whole name))) = null_meant name (meaning env name)
 null_typing env given = misfit_typing env given
@@ -123,6 +128,7 @@ abbrev pub argc_meant : Span → Span → Meaning → Typing (Unit {0})
 argc_meant mark name (m.Declared d.ArgumentCount) = typed tt
 argc_meant mark name meant = unfit mark name meant
 
+-- `&` and main's own int parameter
 abbrev pub argc_typing : Env → t.Argument → Typing (Unit {0})
 argc_typing env (t.address mark (t.whole name)) = argc_meant mark name (meaning env name)
 argc_typing env given = misfit_typing env given
@@ -132,6 +138,7 @@ abbrev pub argv_meant : Span → Span → Meaning → Typing (Unit {0})
 argv_meant mark name (m.Declared d.ArgumentTexts) = typed tt
 argv_meant mark name meant = unfit mark name meant
 
+-- `&` and main's own `char` parameter
 abbrev pub argv_typing : Env → t.Argument → Typing (Unit {0})
 argv_typing env (t.address mark (t.whole name)) = argv_meant mark name (meaning env name)
 argv_typing env given = misfit_typing env given
@@ -143,6 +150,7 @@ is_null_meant m.LeftOut = true
 is_null_meant m.Unknown = true
 is_null_meant _ = false
 
+-- whether an argument is `NULL`, or a name without a meaning, which may be it
 abbrev pub is_null : Env → t.Argument → Bool
 is_null env (t.value (t.read (t.whole name))) = is_null_meant (meaning env name)
 is_null env given = false
@@ -156,6 +164,7 @@ init_typing env argc argv =
 
 -- ---- the calls, by the function; of a wrong number of arguments the number alone is told, at the name
 
+-- a call of an MPI function, by its arguments in the order of the C binding; any other number of them is a fault at the name
 abbrev pub mpi_typing : Env → Span → MpiFunction → List t.Argument → Typing MpiCall
 mpi_typing env name f.Init (argc ∷ argv ∷ []) = init_typing env argc argv
 mpi_typing env name f.Finalize [] = typed pure.finalize

@@ -31,6 +31,7 @@ operand_faults operator left left_at right right_at =
 abbrev pub is_field : List ℕ → Bool
 is_field name = bytes_eq name (codes "MPI_SOURCE") || bytes_eq name (codes "MPI_TAG")
 
+-- a field that a status does not have; of what is no status the field is not asked
 abbrev pub field_faults : Env → ExprKind → Span → List TypingFault
 field_faults env (Of Status) name = fault_unless (is_field (token_bytes env.text name)) name LeftOut
 field_faults env kind name = []

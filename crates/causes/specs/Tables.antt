@@ -48,6 +48,7 @@ abbrev pub adds_mate_by : Option ℕ → Key → Bool
 adds_mate_by None key = false
 adds_mate_by (Some at) key = same_key (mates_key at) key
 
+-- the same, of an event
 abbrev pub adds_mate : Event → Key → Bool
 adds_mate event key = adds_mate_by event.mate key
 

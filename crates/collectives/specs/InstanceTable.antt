@@ -12,10 +12,11 @@ InstancesByCommunicator = List (ℕ × List (List Entrant))
 abbrev pub instances_in : InstancesByCommunicator → ℕ → List (List Entrant)
 instances_in table comm = unwrap_or (lookup (nat_eq comm) table) []
 
--- each communicator has the same instances, or each but one
+-- each communicator has the same instances
 abbrev pub HaveSameInstances : InstancesByCommunicator → InstancesByCommunicator → Type 0
 HaveSameInstances old new = (other : ℕ) → instances_in new other ≡ instances_in old other
 
+-- each communicator but one has the same instances
 abbrev pub HaveSameBeside : ℕ → InstancesByCommunicator → InstancesByCommunicator → Type 0
 HaveSameBeside comm old new = (other : ℕ) → (comm == other) ≡ false → instances_in new other ≡ instances_in old other
 

@@ -37,6 +37,7 @@ open_text start = codes "start " ++ made_text start.0 start.1
 abbrev pub given_text : Reply → List ℕ
 given_text reply = codes " " ++ reply_text reply ++ codes "\n"
 
+-- the reply, or that there is no call
 abbrev pub answer_text : Option (Call × Reply) → List ℕ
 answer_text None = codes " no call\n"
 answer_text (Some seen) = given_text seen.1

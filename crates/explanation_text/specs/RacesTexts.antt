@@ -27,6 +27,7 @@ abbrev pub raced_in : List Name → ℕ
 raced_in [] = 0
 raced_in (name ∷ names) = 1
 
+-- how many receives from any source could have taken another message
 abbrev pub raced : List WildcardReceive → ℕ
 raced receives = sum_by (λ (receive : WildcardReceive). raced_in receive.others) receives
 

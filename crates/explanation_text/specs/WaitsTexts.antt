@@ -66,6 +66,7 @@ taken_text_from own me comm source tag sender = if source_agrees source sender t
 abbrev pub taken_texts : View → ℕ → ℕ → Source → Tag → List ℕ → List ℕ
 taken_texts own me comm source tag senders = flat_map (taken_text_from own me comm source tag) senders
 
+-- in what a message and a receive differ
 abbrev pub difference_text : Difference → List ℕ
 difference_text Comm = codes " comm"
 difference_text BySource = codes " source"

@@ -41,11 +41,12 @@ pub record IsLookedAtQuietly (question : Question) (races : Races) (seen : Seen)
   pub reckoned : IsReckonedWith question.next question.ranks races before
   pub looked : IsLookedAt question seen before ⊎ IsQuietCallMet question.next question.ranks races (histories question.next question.ranks seen.states) before
 
--- a run that ended by a mismatch; whether one of these did that were found
+-- a run that ended by a mismatch
 abbrev pub is_mismatched_ending : Ending → Bool
 is_mismatched_ending (Halted (Mismatched second)) = true
 is_mismatched_ending ending = false
 
+-- whether one of those that were found did
 abbrev pub has_mismatch : List FoundOutcome → Bool
 has_mismatch listed = list_any (λ found. is_mismatched_ending found.outcome.ending) listed
 
@@ -79,10 +80,11 @@ pub record IsLastAnswered (events : List Event) : Type 0 where
   pub ready : event.reply ≢ NotYet
   pub probe : IsProbeKept before event
 
--- of a search that has met this, a state was looked at so; one of its quiet calls was followed
+-- of a search that has met this, a state was looked at so
 abbrev pub HasLookedAtQuietly : Question → Races → Met → List Turn → Type 0
 HasLookedAtQuietly question races met turns = IsLookedAtQuietly question races (seen_by met) (events_of_turns question.next question.ranks turns)
 
+-- of a search that has met this, one of the quiet calls of a state was followed
 abbrev pub HasMetQuietly : Next → ℕ → Races → Met → List Turn → Type 0
 HasMetQuietly next n races met turns = IsQuietCallMet next n races (histories next n met.states) (events_of_turns next n turns)
 

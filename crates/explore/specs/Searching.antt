@@ -112,10 +112,11 @@ pub record ArePicksTried (question : Question) (seen : Seen) (before : List Even
   pub some : made ≡ true → (call : Call) × (pick : Pick) × IsOne pick × (call_after question.next question.ranks before rank ≡ Some call) × (has_pick question.ranks before rank call pick ≡ true)
   pub stuck : made ≡ true → IsStuck question.next question.ranks before → IsListed seen.listed (halted_outcome question.next question.output question.ranks before Stuck)
 
--- senders and indices below a count
+-- a sender below a count
 abbrev pub IsSenderBelow : ℕ → Pick → Type 0
 IsSenderBelow count pick = (sender : ℕ) × (pick ≡ Sender sender) × (sender < count)
 
+-- an index below a count
 abbrev pub IsIndexBelow : ℕ → Pick → Type 0
 IsIndexBelow count pick = (index : ℕ) × (pick ≡ Index index) × (index < count)
 
@@ -196,13 +197,15 @@ pub record IsTurnMade (next : Next) (n : ℕ) (before after : List Event) (turn 
 abbrev pub IsAnyPick : Pick → Type 0
 IsAnyPick pick = Unit {0}
 
--- what was tried of a search that has met this: one turn, or all turns of a rank that pick one of these, or of the ranks below a number
+-- what was tried of a search that has met this: one turn
 abbrev pub HasTried : Question → Met → List Event → Turn → Type 0
 HasTried question met before turn = IsTried question (seen_by met) before turn
 
+-- what was tried: all turns of a rank that pick one of these
 abbrev pub HasTriedPicks : Question → Met → List Event → ℕ → (Pick → Type 0) → Bool → Type 0
 HasTriedPicks question met before rank IsOne made = ArePicksTried question (seen_by met) before rank IsOne made
 
+-- what was tried: all turns of the ranks below a number
 abbrev pub HasTriedRanks : Question → Met → List Event → ℕ → Bool → Type 0
 HasTriedRanks question met before below made = AreRanksTried question (seen_by met) before below made
 

@@ -16,6 +16,7 @@ use Rattle.srr_entry.specs.declared.entry.Entry.{Entry}
 use Rattle.srr_entry.specs.declared.entry.Entry.TheVariants.{Took, PeekedInside}
 use Rattle.replay_model.specs.declared.step.Found.{Found}
 
+-- the first of two, where one is found
 abbrev pub or_found : Option Found → Option Found → Option Found
 or_found (Some found) rest = Some found
 or_found None rest = rest
@@ -28,11 +29,13 @@ send_fits me source (Some (Peek comm from tag wait)) sent = accepts me comm from
 send_fits me source (Some call) sent = false
 send_fits me source None sent = false
 
+-- a replayed start that an entry names as a send, and that is no send which its call can take
 abbrev pub break_send : ℕ → ℕ → ℕ → Option Call → Option Call → Option Found
 break_send me source start taker None = None
 break_send me source start taker (Some sent) =
     if send_fits me source taker sent then None else Some (record { rank = source; start = start; call = sent })
 
+-- whether a communicator is known to have these members
 abbrev pub has_members : List ℕ → Option (List ℕ) → Bool
 has_members members (Some others) = same_ranks members others
 has_members members None = false
@@ -44,12 +47,14 @@ break_enter enter members m (Some entered) =
     if agree enter entered.call && has_members members entered.members then None
     else Some (record { rank = m; start = entered.number; call = entered.call })
 
+-- the first member needed whose call of the collective does not agree
 abbrev pub break_members : Call → List ℕ → (ℕ → Bool) → (ℕ → Option Entered) → List ℕ → Option Found
 break_members enter all needed find [] = None
 break_members enter all needed find (m ∷ members) =
     if needed m then or_found (break_enter enter all m (find m)) (break_members enter all needed find members)
     else break_members enter all needed find members
 
+-- the same, of the collective call that a rank's start is
 abbrev pub break_inner : ℕ → (ℕ → View) → ℕ → View → ℕ → Option Call → Option Found
 break_inner n V me own k (Some enter) =
     break_members enter (members_for_rank n own (comm_of enter)) (needs enter (members_for_rank n own (comm_of enter)) me)
@@ -57,12 +62,14 @@ break_inner n V me own k (Some enter) =
     (members_for_rank n own (comm_of enter))
 break_inner n V me own k None = None
 
+-- the first start that a mark names or needs and that does not agree
 abbrev pub break_mark : ℕ → (ℕ → View) → ℕ → View → ℕ → Mark → Option Found
 break_mark n V me own k (Inside source start) = break_send me source start (start_at own k) (start_at (V source) start)
 break_mark n V me own k Inner = break_inner n V me own k (start_at own k)
 break_mark n V me own k (MarkMade comm) = if comm == 0 then None else break_inner n V me own k (start_at own k)
 break_mark n V me own k mark = None
 
+-- the first of those of several marks
 abbrev pub break_marks : ℕ → (ℕ → View) → ℕ → View → List ℕ → List Marked → Option Found
 break_marks n V me own starts [] = None
 break_marks n V me own starts (marked ∷ items) =

@@ -46,15 +46,18 @@ filled_message source start None = Err (Start source start)
 filled_message source start (Some (Send comm dest tag ints sync)) = Ok (Message source start tag ints)
 filled_message source start (Some call) = Ok Nothing
 
+-- what a probe finds at a start: the send that it names, or nothing yet replayed there
 abbrev pub peeked_from : ℕ → ℕ → Option Call → Result Reply Missing
 peeked_from source start None = Err (Start source start)
 peeked_from source start (Some (Send comm dest tag ints sync)) = Ok (Peeked source start tag (length ints))
 peeked_from source start (Some call) = Ok NotYet
 
+-- the result of a collective call that a rank's start is, from what the others gave
 abbrev pub fill_inner : ℕ → (ℕ → View) → ℕ → View → ℕ → Option Call → Result Got Missing
 fill_inner n V me own k (Some enter) = joined_result n me own k enter (inputs_of n V me own k enter)
 fill_inner n V me own k None = Ok Nothing
 
+-- the communicator that a collective call makes, from what the others gave
 abbrev pub fill_made : ℕ → (ℕ → View) → Asker → ℕ → Option Call → Result Got Missing
 fill_made comm V asker k (Some enter) = made_new comm asker k enter (inputs_of asker.ranks V asker.me asker.own k enter)
 fill_made comm V asker k None = Ok Nothing
@@ -71,16 +74,19 @@ fill_mark n V me own k (MarkMade comm) =
     if comm == 0 then Ok (Made 0 []) else fill_made comm V (asker_of n me own) k (start_at own k)
 fill_mark n V me own k (MadeOutside comm members) = Ok (Made comm members)
 
+-- an item before others, where nothing is missing
 abbrev pub push_item : ℕ → Result Got Missing → Result (List Item) Missing → Result (List Item) Missing
 push_item index (Err missing) rest = Err missing
 push_item index (Ok got) (Err missing) = Err missing
 push_item index (Ok got) (Ok items) = Ok ((record { index = index; got = got }) ∷ items)
 
+-- the items of several marks, in order
 abbrev pub fill_marks : ℕ → (ℕ → View) → ℕ → View → List ℕ → List Marked → Result (List Item) Missing
 fill_marks n V me own starts [] = Ok []
 fill_marks n V me own starts (marked ∷ items) =
     push_item marked.index (fill_mark n V me own (slice_index starts marked.index) marked.mark) (fill_marks n V me own starts items)
 
+-- the reply of these items
 abbrev pub as_took : Result (List Item) Missing → Result Reply Missing
 as_took (Ok items) = Ok (Took items)
 as_took (Err missing) = Err missing

@@ -39,6 +39,7 @@ mark_fits n group me own (Some enter) (MadeOutside comm members) =
     && (not (comm == 0) && are_members n me enter (members_for_rank n own (comm_of enter)) members))
 mark_fits n group me own start mark = false
 
+-- each mark agrees with the start that it completes
 abbrev pub marks_fit : ℕ → List ℕ → ℕ → View → List ℕ → List Marked → Bool
 marks_fit n group me own starts [] = true
 marks_fit n group me own starts (marked ∷ marks) =

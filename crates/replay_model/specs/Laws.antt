@@ -42,6 +42,7 @@ pub record ShowsInEveryOrder (next : Next) (output : Output) (log : Log) (run : 
   pub moments : (events : List Event) → Replays next log None events → BeginsRun output log events run
   pub ends : (events : List Event) → IsWholeReplay next log None events → HasAllOf output log events run
 
+-- a rank that stands otherwise than at a call that does not fit its entry
 abbrev pub HasNotDiverged : Stand → Type 0
 HasNotDiverged stand = (divergence : Divergence) → stand ≡ Diverged divergence → ⊥
 

@@ -21,10 +21,12 @@ use Rattle.replay_model.specs.Breaks.{broken}
 abbrev pub Breakpoint : Type 0
 Breakpoint = Option (ℕ × ℕ)
 
+-- whether a breakpoint is at a call of a rank
 abbrev pub is_break : Breakpoint → ℕ → ℕ → Bool
 is_break None rank number = false
 is_break (Some at) rank number = (at.0 == rank) && (at.1 == number)
 
+-- a call that does not fit its entry, with the start that does not agree, where one is found
 abbrev pub diverged : ℕ → View → Call → Entry → Option Found → Step
 diverged me own call entry found =
     Diverged (record { rank = me; call_number = length own; entry = entry; call = call; found = found })
@@ -72,6 +74,7 @@ pub record IsReplayStep (next : Next) (log : Log) (stop : Breakpoint) (before : 
   pub reply : replay_answer log stop (view_of before) event.rank (view_of before event.rank) event.call ≡ Replied event.reply
   pub mate : event.mate ≡ None
 
+-- events each of which is a step of the replay after those before it
 abbrev pub Replays : Next → Log → Breakpoint → List Event → Type 0
 Replays next log stop events = Along (IsReplayStep next log stop) [] events
 

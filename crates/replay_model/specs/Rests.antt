@@ -50,6 +50,7 @@ rests n me own call (Took marks) = rests_marks n me own (listed_by call) marks
 rests n me own call (PeekedInside source start) = Start source start ∷ []
 rests n me own call entry = []
 
+-- the number after one that may be there
 abbrev pub one_later : Option ℕ → Option ℕ
 one_later None = None
 one_later (Some number) = Some (suc number)
@@ -70,6 +71,7 @@ abbrev pub rank_rested_on : Missing → ℕ
 rank_rested_on (Start source start) = source
 rank_rested_on (Member m comm instance) = m
 
+-- the number of the call that has to be replayed first
 abbrev pub call_rested_on : (ℕ → View) → Missing → Option ℕ
 call_rested_on V (Start source start) = number_of_nth is_start (V source) start
 call_rested_on V (Member m comm instance) = number_of_nth (is_enter_on comm) (V m) instance

@@ -33,6 +33,7 @@ abbrev pub got_message : Name → Got → Bool
 got_message name (Message source start tag ints) = (source == name.rank) && (start == name.start)
 got_message name got = false
 
+-- an item got the message of a name
 abbrev pub has_message : Name → Item → Bool
 has_message name item = got_message name item.got
 
@@ -53,6 +54,7 @@ abbrev pub place_with : ℕ → ℕ → Call × Reply → Option Role → List M
 place_with rank number seen None = []
 place_with rank number seen (Some role) = (record { rank = rank; number = number; role = role; call = seen.0; reply = seen.1 }) ∷ []
 
+-- the place at a call, if the rank has made it
 abbrev pub place_of_seen : Name → ℕ → ℕ → ℕ → Option (Call × Reply) → List MessagePlace
 place_of_seen name rank number made None = []
 place_of_seen name rank number made (Some seen) = place_with rank number seen (role_of name rank made seen)

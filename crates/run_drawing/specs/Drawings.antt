@@ -120,6 +120,7 @@ abbrev pub receive_in : Basis → ℕ → Option Event → List DrawnReceive
 receive_in basis p None = []
 receive_in basis p (Some event) = receive_by basis p event.rank event.call
 
+-- the receive that the event at a position completes
 abbrev pub receive_at : Basis → ℕ → List DrawnReceive
 receive_at basis p = receive_in basis p (slice_get basis.events p)
 
@@ -148,6 +149,7 @@ abbrev pub collective_in : Basis → ℕ → Option Event → List DrawnCollecti
 collective_in basis p None = []
 collective_in basis p (Some event) = collective_by basis p event.rank event.call
 
+-- the collective call that the event at a position completes
 abbrev pub collective_at : Basis → ℕ → List DrawnCollective
 collective_at basis p = collective_in basis p (slice_get basis.events p)
 
@@ -166,6 +168,7 @@ abbrev pub unreceived_in : Basis → ℕ → Option Event → List Unreceived
 unreceived_in basis p None = []
 unreceived_in basis p (Some event) = unreceived_by basis p event.rank event.call
 
+-- the message that the event at a position sends and that nobody took
 abbrev pub unreceived_at : Basis → ℕ → List Unreceived
 unreceived_at basis p = unreceived_in basis p (slice_get basis.events p)
 
@@ -184,13 +187,15 @@ abbrev pub probe_in : Basis → ℕ → Option Event → List Arrow
 probe_in basis p None = []
 probe_in basis p (Some event) = probe_by basis p event.reply
 
+-- the message that the event at a position finds
 abbrev pub probe_at : Basis → ℕ → List Arrow
 probe_at basis p = probe_in basis p (slice_get basis.events p)
 
--- what a function gives for the starts, and for the events, of a rank
+-- what a function gives for the starts of a rank
 abbrev pub of_starts : {A : Type 0} → (ℕ → List A) → List Event → ℕ → List A
 of_starts at events rank = flat_map at (positions (is_start_of rank) 0 events)
 
+-- what a function gives for the events of a rank
 abbrev pub of_events : {A : Type 0} → (ℕ → List A) → List Event → ℕ → List A
 of_events at events rank = flat_map at (positions (is_event_of rank) 0 events)
 

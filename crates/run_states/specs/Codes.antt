@@ -66,25 +66,28 @@ code_of_entry (PeekedInside source start) = pos 7 ∷ pos source ∷ pos start �
 code_of_entry (PeekedOutside source start tag count) = pos 8 ∷ pos source ∷ pos start ∷ pos tag ∷ pos count ∷ []
 code_of_entry (Stopped halt) = pos 9 ∷ code_of_halt halt
 
--- a rank's entries, and those of each rank
+-- a rank's entries
 abbrev pub code_of_entries : List Entry → List ℤ
 code_of_entries entries = code_of_list code_of_entry entries
 
+-- the entries of each rank
 abbrev pub code_of_lists : List (List Entry) → List ℤ
 code_of_lists lists = code_of_list code_of_entries lists
 
--- a partner, if there is one, and those of each start of each rank
+-- a partner, if there is one
 abbrev pub code_of_partner : Option Name → List ℤ
 code_of_partner None = pos 0 ∷ []
 code_of_partner (Some name) = pos 1 ∷ pos name.0 ∷ pos name.1 ∷ []
 
+-- the partners of each start of each rank
 abbrev pub code_of_partners : List (List (Option Name)) → List ℤ
 code_of_partners partners = code_of_list (code_of_list code_of_partner) partners
 
--- where a communicator comes from, and those that were made
+-- where a communicator comes from
 abbrev pub code_of_origin : Origin → List ℤ
 code_of_origin origin = pos origin.comm ∷ pos origin.instance ∷ code_of_ints origin.colour
 
+-- the communicators that were made
 abbrev pub code_of_made : List Origin → List ℤ
 code_of_made made = code_of_list code_of_origin made
 

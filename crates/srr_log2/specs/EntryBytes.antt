@@ -20,6 +20,7 @@ word_bytes number = big_bytes 4 number
 abbrev pub int_bytes : ℤ → List ℕ
 int_bytes int = word_bytes (cast_unsigned w32 int)
 
+-- ints, each of four bytes
 abbrev pub ints_bytes : List ℤ → List ℕ
 ints_bytes [] = []
 ints_bytes (int ∷ ints) = int_bytes int ++ ints_bytes ints
@@ -74,6 +75,7 @@ record_bytes (PeekedInside source start) more = name_bytes 7 source start
 record_bytes (PeekedOutside source start tag count) more = tagged_bytes 8 source start tag ++ word_bytes count
 record_bytes (Stopped halt) more = 9 ∷ halt_bytes halt
 
+-- an entry of a call that found nothing complete, of which several in a row are counted
 abbrev pub is_not_yet : Entry → Bool
 is_not_yet NotYet = true
 is_not_yet entry = false

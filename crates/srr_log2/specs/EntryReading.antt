@@ -106,6 +106,7 @@ mark_of n group MadeOutsideMark = do
   members ← coded_members n
   give (MadeOutside comm members)
 
+-- the kind of a mark
 unfoldable pub coded_mark_kind : Reader MarkKind
 coded_mark_kind = coded_byte BadEntry mark_kind_of
 
@@ -178,6 +179,7 @@ may_stand counted others StoppedKind = others == 0
 may_stand counted others NotYetKind = not counted
 may_stand counted others kind = true
 
+-- a kind of record that may stand here
 abbrev pub standing : Bool → ℕ → Option RecordKind → Option RecordKind
 standing counted others None = None
 standing counted others (Some kind) = only_if (may_stand counted others kind) kind

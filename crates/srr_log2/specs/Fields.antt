@@ -24,6 +24,7 @@ onward (reads value rest) f = f value rest
 onward (stops why left) f = stops why left
 
 infixl 10 ◌>>=◌
+-- one reading after another
 abbrev pub ◌>>=◌ : {A B : Type 0} → Reader A → (A → Reader B) → Reader B
 (r >>= f) text = onward (r text) f
 

@@ -24,6 +24,7 @@ abbrev pub lesser : Option ℕ → ℕ → ℕ
 lesser None rank = rank
 lesser (Some least) rank = min least rank
 
+-- the least rank of a group that another has too, by the least so far and one rank more
 abbrev pub lesser_shared : List ℕ → Option ℕ → ℕ → Option ℕ
 lesser_shared group least rank = if is_member group rank then Some (lesser least rank) else least
 

@@ -3,19 +3,22 @@ use Rattle.std.specs.Prelude.{◌+◌, ◌-◌, ◌*◌, ◌/◌, ◌||◌, ℕ,
 use Rattle.svg_text.specs.declared.grid.Grid.{Grid}
 use Rattle.svg_text.specs.declared.grid.Grid.TheVariants.{Dense, Wide}
 
--- the size of a cell, and half of it
+-- the width of a cell
 abbrev pub cell_width : Grid → ℕ
 cell_width Wide = 46
 cell_width Dense = 16
 
+-- half the width of a cell
 abbrev pub half_width : Grid → ℕ
 half_width Wide = 23
 half_width Dense = 8
 
+-- the height of a cell
 abbrev pub cell_height : Grid → ℕ
 cell_height Wide = 62
 cell_height Dense = 22
 
+-- half the height of a cell
 abbrev pub half_height : Grid → ℕ
 half_height Wide = 31
 half_height Dense = 11
@@ -24,17 +27,19 @@ half_height Dense = 11
 abbrev pub grid_by : ℕ → ℕ → Grid
 grid_by ranks calls = if nat_lt 12 ranks || nat_lt 400 calls then Dense else Wide
 
--- the middle of a column, and of a lane
+-- the middle of a column
 abbrev pub x_of : Grid → ℕ → ℕ
 x_of grid column = 92 + half_width grid + cell_width grid * column
 
+-- the middle of a lane
 abbrev pub y_of : Grid → ℕ → ℕ
 y_of grid rank = 60 + half_height grid + cell_height grid * rank
 
--- the right end of the lanes, and where they end below
+-- the right end of the lanes
 abbrev pub right_of : Grid → ℕ → ℕ
 right_of grid columns = 108 + cell_width grid * columns
 
+-- where the lanes end below
 abbrev pub bottom_of : Grid → ℕ → ℕ
 bottom_of grid ranks = 60 + cell_height grid * ranks
 

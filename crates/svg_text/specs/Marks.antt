@@ -26,10 +26,11 @@ title_text mark call reply =
     codes "<g><title>rank " ++ decimal_text mark.rank ++ codes " call " ++ decimal_text mark.number ++ codes ": " ++ call_text call
     ++ codes " -&gt; " ++ reply_text reply ++ codes "</title>\n"
 
--- a label above a mark, in its middle; none in a dense grid
+-- the beginning of a label above a mark, in its middle
 abbrev pub label_begin : ℕ → ℕ → List ℕ
 label_begin x y = filled_text (codes "<text class=\"n\" x=\"%\" y=\"%\" text-anchor=\"middle\">") (Number x ∷ Number (y - 12) ∷ [])
 
+-- a label above a mark; none in a dense grid
 abbrev pub label_text : Grid → ℕ → ℕ → List ℕ → List ℕ
 label_text Dense x y text = []
 label_text Wide x y text = label_begin x y ++ text ++ codes "</text>\n"
@@ -52,15 +53,17 @@ drawn_send_text grid x y group tag =
     filled_text (codes "<circle cx=\"%\" cy=\"%\" r=\"5\" fill=\"%\"/>\n") (Number x ∷ Number y ∷ Deep group ∷ [])
     ++ label_text grid x y (codes "tag " ++ decimal_text tag)
 
--- a receive that is posted
+-- a receive that is posted, of a colour
 abbrev pub post_by : ℕ → ℕ → Filler → List ℕ
 post_by x y colour =
     filled_text (codes "<circle cx=\"%\" cy=\"%\" r=\"4\" fill=\"#ffffff\" stroke=\"%\" stroke-width=\"2\"/>\n") (Number x ∷ Number y ∷ colour ∷ [])
 
+-- what says that a receive takes from any source; not in a dense grid
 abbrev pub any_label_text : Grid → ℕ → ℕ → List ℕ
 any_label_text Dense x y = []
 any_label_text Wide x y = filled_text (codes "<text class=\"w\" x=\"%\" y=\"%\">any</text>\n") (Number (x - 10) ∷ Number (y - 10) ∷ [])
 
+-- a receive that is posted, by its source
 abbrev pub post_text : Grid → ℕ → ℕ → ℕ → Source → List ℕ
 post_text grid x y group Any = post_by x y Wild ++ any_label_text grid x y
 post_text grid x y group source = post_by x y (Deep group)
@@ -77,30 +80,36 @@ diamond_text x y colour =
     filled_text (codes "<path d=\"M% %L% %L% %L% %z\" fill=\"%\"/>\n")
     (Number (x - 7) ∷ Number y ∷ Number x ∷ Number (y - 7) ∷ Number (x + 7) ∷ Number y ∷ Number x ∷ Number (y + 7) ∷ colour ∷ [])
 
--- whom the messages of a reply are from
+-- whom a message is from
 abbrev pub message_sources : Got → List ℕ
 message_sources (Message source start tag ints) = source ∷ []
 message_sources got = []
 
+-- whom the messages of items are from
 abbrev pub sources_in : List Item → List ℕ
 sources_in [] = []
 sources_in (item ∷ items) = message_sources item.got ++ sources_in items
 
+-- whom the messages of a reply are from
 abbrev pub sources_of : Reply → List ℕ
 sources_of (Took items) = sources_in items
 sources_of reply = []
 
+-- what says whom the messages are from; not in a dense grid
 abbrev pub sources_label_text : Grid → ℕ → ℕ → Reply → List ℕ
 sources_label_text Dense x y reply = []
 sources_label_text Wide x y reply =
     filled_text (codes "<text class=\"w\" x=\"%\" y=\"%\">from ") (Number (x - 16) ∷ Number (y - 12) ∷ []) ++ numbers_text (sources_of reply) ++ codes "</text>\n"
 
+-- a completion of a receive from any source
 abbrev pub wild_text : Grid → ℕ → ℕ → Reply → List ℕ
 wild_text grid x y reply = diamond_text x y Wild ++ sources_label_text grid x y reply
 
+-- a completion, whether of a receive from any source or not
 abbrev pub done_text : Grid → ℕ → ℕ → ℕ → Bool → Reply → List ℕ
 done_text grid x y group is_wild reply = if is_wild then wild_text grid x y reply else diamond_text x y (Deep group)
 
+-- a completion, or a test that found nothing complete
 abbrev pub take_text : Grid → ℕ → ℕ → ℕ → Bool → Reply → List ℕ
 take_text grid x y group is_wild NotYet =
     filled_text (codes "<circle cx=\"%\" cy=\"%\" r=\"3\" fill=\"#ffffff\" stroke=\"#8a8f98\"/>\n") (Number x ∷ Number y ∷ [])
@@ -153,5 +162,6 @@ abbrev pub seen_mark_text : Grid → List ℕ → DrawnMark → Option (Call × 
 seen_mark_text grid groups mark None = []
 seen_mark_text grid groups mark (Some (call, reply)) = titled_mark_text grid groups mark call reply
 
+-- the mark of a call that a rank has made
 abbrev pub drawn_mark_text : Grid → List ℕ → (ℕ → View) → DrawnMark → List ℕ
 drawn_mark_text grid groups views mark = seen_mark_text grid groups mark (slice_get (views mark.rank) mark.number)

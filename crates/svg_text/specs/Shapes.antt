@@ -25,6 +25,7 @@ dense_lane right group rank y =
     filled_text (codes "<rect x=\"8\" y=\"%\" width=\"%\" height=\"20\" fill=\"%\"/>\n<text class=\"t\" x=\"16\" y=\"%\" style=\"font-weight:bold;fill:%\">rank %</text>\n<line class=\"l\" x1=\"92\" y1=\"%\" x2=\"%\" y2=\"%\"/>\n")
     (Number (y - 10) ∷ Number (right - 8) ∷ Pale group ∷ Number (y + 4) ∷ Deep group ∷ Number rank ∷ Number y ∷ Number right ∷ Number y ∷ [])
 
+-- a rank's lane
 abbrev pub lane_text : Grid → ℕ → List ℕ → ℕ → List ℕ
 lane_text Wide right groups rank = wide_lane right (slice_index groups rank) rank (y_of Wide rank)
 lane_text Dense right groups rank = dense_lane right (slice_index groups rank) rank (y_of Dense rank)
@@ -35,14 +36,16 @@ bar_text grid rank from to colour =
     filled_text (codes "<rect x=\"%\" y=\"%\" width=\"%\" height=\"10\" rx=\"5\" fill=\"%\" fill-opacity=\"0.28\"/>\n")
     (Number (x_of grid from - 5) ∷ Number (y_of grid rank - 5) ∷ Number (x_of grid to - x_of grid from + 10) ∷ colour ∷ [])
 
--- a receive that nobody's message came to, one from any source, another
+-- the colour of a receive that took a message: one from any source, or another
 abbrev pub taken_colour : List ℕ → ℕ → Bool → Filler
 taken_colour groups rank is_wild = if is_wild then Wild else Deep (slice_index groups rank)
 
+-- the colour of a receive; one that no message came to is red
 abbrev pub receive_colour : List ℕ → ℕ → Bool → Option DrawnMessage → Filler
 receive_colour groups rank is_wild None = Bad
 receive_colour groups rank is_wild (Some message) = taken_colour groups rank is_wild
 
+-- a receive, from where it was posted to where it was completed
 abbrev pub drawn_receive_text : Grid → List ℕ → DrawnReceive → List ℕ
 drawn_receive_text grid groups receive = bar_text grid receive.rank receive.from receive.to (receive_colour groups receive.rank receive.is_wild receive.message)
 
@@ -69,6 +72,7 @@ latest_text Dense (Some from) rank column =
     filled_text (codes "<line class=\"d\" stroke=\"#9aa0aa\" x1=\"%\" y1=\"%\" x2=\"%\" y2=\"%\"/>\n")
     (Number (x_of Dense from.column) ∷ Number (y_of Dense from.rank) ∷ Number (x_of Dense column) ∷ Number (y_of Dense rank) ∷ [])
 
+-- a collective call, from where it was entered to where it was completed
 abbrev pub collective_text : Grid → DrawnCollective → List ℕ
 collective_text grid collective =
     bar_text grid collective.rank collective.from collective.to Gray ++ latest_text grid collective.latest collective.rank collective.to
@@ -84,14 +88,16 @@ message_choices_text grid rank column None = []
 message_choices_text Wide rank column (Some message) = flat_map (choice_text Wide rank column) message.choices
 message_choices_text Dense rank column (Some message) = []
 
+-- the messages that could have come instead to a receive
 abbrev pub choices_text : Grid → DrawnReceive → List ℕ
 choices_text grid receive = message_choices_text grid receive.rank receive.to receive.message
 
--- the arrow of a message, of the colour of its sender's group, or of that of receives from any source
+-- the arrow of a message to a receive from any source
 abbrev pub wild_arrow : Grid → Point → ℕ → ℕ → List ℕ
 wild_arrow grid sender rank column =
     codes "<line class=\"m\" stroke=\"#b8007a\"" ++ line_ends_text grid sender rank column ++ codes " marker-end=\"url(#w)\"/>\n"
 
+-- the arrow of a message, of the colour of its sender's group, or of that of receives from any source
 abbrev pub arrow_text : Grid → List ℕ → Bool → Point → ℕ → ℕ → List ℕ
 arrow_text grid groups is_wild sender rank column =
     if is_wild then wild_arrow grid sender rank column else
@@ -99,10 +105,12 @@ arrow_text grid groups is_wild sender rank column =
     ++ line_ends_text grid sender rank column
     ++ filled_text (codes " marker-end=\"url(#a%)\"/>\n") (Number (slice_index groups sender.rank % 8) ∷ [])
 
+-- the arrow of a message that may have come
 abbrev pub message_arrow_text : Grid → List ℕ → Bool → ℕ → ℕ → Option DrawnMessage → List ℕ
 message_arrow_text grid groups is_wild rank column None = []
 message_arrow_text grid groups is_wild rank column (Some message) = arrow_text grid groups is_wild message.sender rank column
 
+-- the arrow of the message that a receive took
 abbrev pub received_message_text : Grid → List ℕ → DrawnReceive → List ℕ
 received_message_text grid groups receive = message_arrow_text grid groups receive.is_wild receive.rank receive.to receive.message
 
@@ -110,20 +118,23 @@ received_message_text grid groups receive = message_arrow_text grid groups recei
 abbrev pub drawn_probe_text : Grid → Arrow → List ℕ
 drawn_probe_text grid probe = gray_text grid probe.from probe.to.rank probe.to.column
 
--- a message that nobody took, up or down toward its receiver; none in a dense grid
+-- a message that nobody took, down toward its receiver
 abbrev pub stub_down : ℕ → ℕ → ℕ → List ℕ
 stub_down x y receiver =
     filled_text (codes "<line class=\"o\" stroke=\"#8a8f98\" x1=\"%\" y1=\"%\" x2=\"%\" y2=\"%\"/>\n<circle cx=\"%\" cy=\"%\" r=\"3\" fill=\"#ffffff\" stroke=\"#8a8f98\"/>\n<text class=\"n\" x=\"%\" y=\"%\" text-anchor=\"start\">to %</text>\n")
     (Number x ∷ Number y ∷ Number (x + 18) ∷ Number (y + 24) ∷ Number (x + 18) ∷ Number (y + 24) ∷ Number (x + 24) ∷ Number (y + 28) ∷ Number receiver ∷ [])
 
+-- a message that nobody took, up toward its receiver
 abbrev pub stub_up : ℕ → ℕ → ℕ → List ℕ
 stub_up x y receiver =
     filled_text (codes "<line class=\"o\" stroke=\"#8a8f98\" x1=\"%\" y1=\"%\" x2=\"%\" y2=\"%\"/>\n<circle cx=\"%\" cy=\"%\" r=\"3\" fill=\"#ffffff\" stroke=\"#8a8f98\"/>\n<text class=\"n\" x=\"%\" y=\"%\" text-anchor=\"end\">to %</text>\n")
     (Number x ∷ Number y ∷ Number (x - 16) ∷ Number (y - 24) ∷ Number (x - 16) ∷ Number (y - 24) ∷ Number (x - 22) ∷ Number (y - 20) ∷ Number receiver ∷ [])
 
+-- a message that nobody took, toward its receiver
 abbrev pub stub_text : Bool → ℕ → ℕ → ℕ → List ℕ
 stub_text is_down x y receiver = if is_down then stub_down x y receiver else stub_up x y receiver
 
+-- a message that nobody took; none in a dense grid
 abbrev pub unreceived_text : Grid → Unreceived → List ℕ
 unreceived_text Dense unreceived = []
 unreceived_text Wide unreceived =

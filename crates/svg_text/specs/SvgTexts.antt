@@ -22,11 +22,12 @@ use Rattle.svg_text.specs.Grids.{bottom_of, grid_by, right_of}
 use Rattle.svg_text.specs.Marks.{drawn_mark_text}
 use Rattle.svg_text.specs.Shapes.{choices_text, collective_text, lane_text, received_message_text, drawn_probe_text, drawn_receive_text, unreceived_text}
 
--- the size of the picture, and its ground
+-- the frame of the picture, of its size
 abbrev pub frame_text : ℕ → ℕ → List ℕ
 frame_text wide high =
     filled_text (codes "<svg xmlns=\"http://www.w3.org/2000/svg\" width=\"%\" height=\"%\" viewBox=\"0 0 % %\">\n") (Number wide ∷ Number high ∷ Number wide ∷ Number high ∷ [])
 
+-- how texts and lines look, by their class
 abbrev pub style_text : List ℕ
 style_text =
     codes "<style>text{font-family:DejaVu Sans,Verdana,sans-serif;fill:#23272e}.h{font-size:15px;font-weight:bold}.t{font-size:12px}.s{font-size:10px;fill:#666c75}"
@@ -36,12 +37,13 @@ style_text =
     ++ codes ".l{stroke:#c3c8d0;stroke-width:1}.m{stroke-width:2;fill:none}.o{stroke-width:1;fill:none;stroke-dasharray:5 4}"
     ++ codes ".d{stroke:#9aa0aa;stroke-width:1;stroke-opacity:0.3}.j{stroke:#9aa0aa;stroke-width:1;fill:none}</style>\n"
 
--- the heads of arrows: from any source, of what waits, gray, and of each colour of groups
+-- the head of an arrow, of a colour
 abbrev pub arrow_head_text : List ℕ → List ℕ → List ℕ
 arrow_head_text name colour =
     codes "<marker id=\"" ++ name ++ codes "\" markerUnits=\"userSpaceOnUse\" markerWidth=\"10\" markerHeight=\"8\" refX=\"9\" refY=\"4\" orient=\"auto\"><path d=\"M0 0L10 4L0 8z\" fill=\""
     ++ colour ++ codes "\"/></marker>\n"
 
+-- the heads of arrows: from any source, of what waits, gray, and of each colour of groups
 abbrev pub heads_text : List ℕ
 heads_text =
     codes "<defs>\n"
@@ -51,6 +53,7 @@ heads_text =
     ++ arrow_head_text (codes "a6") (codes "#85741c") ++ arrow_head_text (codes "a7") (codes "#5a5a86")
     ++ codes "</defs>\n"
 
+-- the ground of the picture
 abbrev pub ground_text : ℕ → ℕ → List ℕ
 ground_text wide high = filled_text (codes "<rect width=\"%\" height=\"%\" fill=\"#ffffff\"/>\n") (Number wide ∷ Number high ∷ [])
 
@@ -59,6 +62,7 @@ abbrev pub end_text : Ending → List ℕ
 end_text Finished = codes "finished"
 end_text (Halted halt) = codes "halted " ++ halt_text halt
 
+-- what a word has behind it where there is not one
 abbrev pub plural_text : ℕ → List ℕ
 plural_text count = if count == 1 then [] else codes "s"
 
@@ -67,32 +71,38 @@ abbrev pub groups_in : List ℕ → ℕ
 groups_in [] = 0
 groups_in (group ∷ groups) = max (suc group) (groups_in groups)
 
+-- the heading: how many ranks and groups there are, how many calls, and how the run ended
 abbrev pub heading_text : List ℕ → ℕ → Ending → List ℕ
 heading_text groups calls ending =
     codes "<text class=\"h\" x=\"14\" y=\"26\">" ++ decimal_text (length groups) ++ codes " ranks in " ++ decimal_text (groups_in groups) ++ codes " group"
     ++ plural_text (groups_in groups) ++ codes ", " ++ decimal_text calls ++ codes " events, " ++ end_text ending ++ codes "</text>\n"
 
--- a receive from any source that was completed, and one that could have taken another message
+-- 1 where a message was taken
 abbrev pub took_any : Option DrawnMessage → ℕ
 took_any None = 0
 took_any (Some message) = 1
 
+-- 1 where there is a message that could have come instead
 abbrev pub some_choice : List Point → ℕ
 some_choice [] = 0
 some_choice (point ∷ points) = 1
 
+-- 1 for a message instead of which another could have come
 abbrev pub had_choice : Option DrawnMessage → ℕ
 had_choice None = 0
 had_choice (Some message) = some_choice message.choices
 
+-- how many receives from any source took a message
 abbrev pub count_wild : List DrawnReceive → ℕ
 count_wild [] = 0
 count_wild (receive ∷ receives) = (if receive.is_wild then took_any receive.message else 0) + count_wild receives
 
+-- how many of these could have taken another one
 abbrev pub count_raced : List DrawnReceive → ℕ
 count_raced [] = 0
 count_raced (receive ∷ receives) = (if receive.is_wild then had_choice receive.message else 0) + count_raced receives
 
+-- how the picture is read, and how many receives raced
 abbrev pub subtitle_text : List DrawnReceive → List ℕ
 subtitle_text receives =
     codes "<text class=\"s\" x=\"14\" y=\"44\">A call stands to the right of all that it needed; calls in one column have no order. "
@@ -109,6 +119,7 @@ legend_text y =
     ++ filled_text (codes "<rect x=\"386\" y=\"%\" width=\"4\" height=\"18\" fill=\"#555b66\"/>\n<text class=\"s\" x=\"402\" y=\"%\">end</text>\n") (Number (y - 9) ∷ Number (y + 4) ∷ [])
     ++ filled_text (codes "<circle cx=\"446\" cy=\"%\" r=\"5\" fill=\"#b8007a\"/>\n<text class=\"s\" x=\"460\" y=\"%\">from any source</text>\n") (Number y ∷ Number (y + 4) ∷ [])
 
+-- what the broken arrows mean; not in a dense grid, which has none
 abbrev pub choices_legend : Grid → ℕ → List ℕ
 choices_legend Dense y = []
 choices_legend Wide y =

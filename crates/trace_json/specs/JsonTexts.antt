@@ -19,6 +19,7 @@ use Rattle.wiz_base.specs.Decimals.{decimal_text}
 abbrev pub trace_head_text : List ℕ
 trace_head_text = codes "{\"traceEvents\":[\n{\"name\":\"process_name\",\"ph\":\"M\",\"pid\":0,\"tid\":0,\"args\":{\"name\":\"group 0\"}}"
 
+-- the name of a group
 abbrev pub group_name_text : ℕ → List ℕ
 group_name_text group =
     codes ",\n{\"name\":\"process_name\",\"ph\":\"M\",\"pid\":" ++ decimal_text group ++ codes ",\"tid\":0,\"args\":{\"name\":\"group " ++ decimal_text group ++ codes "\"}}"
@@ -28,6 +29,7 @@ abbrev pub last_group : List ℕ → ℕ
 last_group [] = 0
 last_group (group ∷ groups) = max group (last_group groups)
 
+-- the names of all groups
 abbrev pub groups_text : List ℕ → List ℕ
 groups_text groups = trace_head_text ++ for_ranks (λ before. group_name_text (before + 1)) (last_group groups)
 
@@ -48,6 +50,7 @@ verb_text (Abort code) = codes "abort"
 verb_text (Trap fault) = codes "trap"
 verb_text End = codes "end"
 
+-- the name of a call, or that it stopped its rank
 abbrev pub event_name_text : Call → Reply → List ℕ
 event_name_text call (Stopped halt) = codes "stopped"
 event_name_text call reply = verb_text call
@@ -57,10 +60,12 @@ abbrev pub place_text : List ℕ → ℕ → ℕ → List ℕ
 place_text groups rank column =
     codes "\"ts\":" ++ decimal_text column ++ codes ",\"pid\":" ++ decimal_text (slice_index groups rank) ++ codes ",\"tid\":" ++ decimal_text rank
 
+-- what is told of a call besides: its number, itself and its reply
 abbrev pub args_text : ℕ → Call → Reply → List ℕ
 args_text number call reply =
     codes ",\"args\":{\"number\":" ++ decimal_text number ++ codes ",\"call\":\"" ++ call_text call ++ codes "\",\"reply\":\"" ++ reply_text reply ++ codes "\"}}"
 
+-- a call and its reply, of one microsecond
 abbrev pub span_by : List ℕ → DrawnMark → Call → Reply → List ℕ
 span_by groups mark call reply =
     codes ",\n{\"name\":\"" ++ event_name_text call reply ++ codes "\",\"ph\":\"X\",\"dur\":1," ++ place_text groups mark.rank mark.column
@@ -71,6 +76,7 @@ abbrev pub span_in : List ℕ → DrawnMark → Option (Call × Reply) → List 
 span_in groups mark None = []
 span_in groups mark (Some (call, reply)) = span_by groups mark call reply
 
+-- the call at a mark, which its rank has made
 abbrev pub span_text : List ℕ → (ℕ → View) → DrawnMark → List ℕ
 span_text groups views mark = span_in groups mark (slice_get (views mark.rank) mark.number)
 
@@ -85,6 +91,7 @@ flow_text groups number message rank column =
     flow_name message.choices ++ codes "\"ph\":\"s\",\"id\":" ++ decimal_text number ++ codes "," ++ place_text groups message.sender.rank message.sender.column ++ codes "}"
     ++ flow_name message.choices ++ codes "\"ph\":\"f\",\"bp\":\"e\",\"id\":" ++ decimal_text number ++ codes "," ++ place_text groups rank column ++ codes "}"
 
+-- the arrow of a message that may have come
 abbrev pub flow_by : List ℕ → ℕ → ℕ → ℕ → Option DrawnMessage → List ℕ
 flow_by groups number rank column None = []
 flow_by groups number rank column (Some message) = flow_text groups number message rank column

@@ -13,6 +13,7 @@ use Rattle.run_drawing.specs.Drawn.{Drawn}
 abbrev pub begin_of : DrawnMark → ℕ
 begin_of mark = mark.column
 
+-- where a span of one microsecond ends
 abbrev pub mark_end : DrawnMark → ℕ
 mark_end mark = mark.column + 1
 

@@ -7,11 +7,12 @@ use Rattle.run_model.specs.declared.event.Event.{Event}
 use Rattle.run_model.specs.Due.{stops}
 use Rattle.run_model.specs.Views.{View, view_of}
 
--- the events before the first that stops a rank, and those from there on
+-- the events before the first that stops a rank
 abbrev pub going : List Event → List Event
 going [] = []
 going (event ∷ events) = if stops event.reply then [] else event ∷ going events
 
+-- the events from the first on that stops a rank
 abbrev pub halting : List Event → List Event
 halting [] = []
 halting (event ∷ events) = if stops event.reply then event ∷ events else halting events

@@ -27,6 +27,7 @@ abbrev pub next_at : ℕ → List Event → ℕ → Option Call → Option ℕ
 next_at n G me None = None
 next_at n G me (Some call) = find (λ rank. is_live n G rank && waits_for (waits_at n G me call) rank) (world n 0)
 
+-- the same, of a rank of a run that is stuck
 abbrev pub waited_rank : ℕ → List Event → ℕ → Option ℕ
 waited_rank n events rank = next_at n (going events) rank (stopped_call events rank)
 
@@ -34,10 +35,12 @@ waited_rank n events rank = next_at n (going events) rank (stopped_call events r
 abbrev pub has_no_hope : ℕ → List Event → List Wait → Bool
 has_no_hope n G waits = list_any (λ (wait : Wait). list_all (λ rank. not (is_live n G rank)) wait.awaited) waits
 
+-- a rank was stopped at a call of which this holds
 abbrev pub is_hopeless_at : ℕ → List Event → ℕ → Option Call → Bool
 is_hopeless_at n G me None = false
 is_hopeless_at n G me (Some call) = has_no_hope n G (waits_at n G me call)
 
+-- the same, of a rank of a run that is stuck
 abbrev pub is_hopeless : ℕ → List Event → ℕ → Bool
 is_hopeless n events rank = is_hopeless_at n (going events) rank (stopped_call events rank)
 

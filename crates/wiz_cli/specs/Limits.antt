@@ -12,6 +12,7 @@ use Rattle.wiz_words.specs.declared.limits.TheConstants.{FEWEST_POLLS, FEWEST_RA
 use Rattle.wiz_tool.specs.Inputs.{order_limit, text_limit}
 use Rattle.wiz_runs.specs.declared.commands.picture.TheConstants.{MOST_DRAWN}
 
+-- the limits of the product, each with its number
 pub record AreTheLimits : Type 0 where
   -- an input file: the most bytes of a program or a plan
   pub text : text_limit ≡ 65536

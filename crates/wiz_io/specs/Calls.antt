@@ -10,9 +10,11 @@ pub record Calls : Type 0 where
   pub failing : List ℕ
   pub made : ℕ
 
+-- one call more has been made
 abbrev pub with_one_more : Calls → Calls
 with_one_more calls = record calls { made = raised_once calls.made }
 
+-- one call more is to fail
 abbrev pub with_failing : Calls → ℕ → Calls
 with_failing calls call = record calls { failing = calls.failing ++ call ∷ [] }
 

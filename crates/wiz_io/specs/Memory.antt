@@ -16,6 +16,7 @@ pub record Memory : Type 0 where
   pub read_faults : ℕ
   pub write_faults : ℕ
 
+-- what contracts see of a store in memory
 abbrev pub memory_of : MemoryStore → Memory
 memory_of store = record {
   files = files_in_table store.table;
@@ -28,7 +29,7 @@ memory_of store = record {
 abbrev pub new_memory : Files → Memory
 new_memory files = record { files = files; calls = no_calls; read_faults = 0; write_faults = 0 }
 
--- after a read: one more call, and one more fault where it failed
+-- how many reads have failed after one more
 abbrev pub read_faults_after : ℕ → Result (List ℕ) ReadFault → ℕ
 read_faults_after faults (Ok bytes) = faults
 read_faults_after faults (Err Missing) = faults
@@ -36,18 +37,20 @@ read_faults_after faults (Err TooLong) = faults
 read_faults_after faults (Err ReadFailed) = raised_once faults
 read_faults_after faults (Err ReadNoMemory) = faults
 
+-- after a read: one more call, and one more fault where it failed
 abbrev pub after_read : Memory → Result (List ℕ) ReadFault → Memory
 after_read memory result = record memory {
   calls = with_one_more memory.calls;
   read_faults = read_faults_after memory.read_faults result;
 }
 
--- after a write that leaves these files: one more call, and one more fault where it failed
+-- how many writes have failed after one more
 abbrev pub write_faults_after : {T : Type 0} → ℕ → Result T WriteFault → ℕ
 write_faults_after faults (Ok done) = faults
 write_faults_after faults (Err WriteFailed) = raised_once faults
 write_faults_after faults (Err WriteNoMemory) = faults
 
+-- after a write that leaves these files: one more call, and one more fault where it failed
 abbrev pub after_write : {T : Type 0} → Memory → Files → Result T WriteFault → Memory
 after_write memory files result = record memory {
   files = files;

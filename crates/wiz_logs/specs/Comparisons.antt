@@ -43,6 +43,7 @@ abbrev pub diff_outcome_by : Status → Replayed → Replayed → List Compared 
 diff_outcome_by Done first second ranks = compared_outcome first second ranks
 diff_outcome_by status first second ranks = traces_outcome status (first ∷ second ∷ [])
 
+-- how a comparison of two replays is told
 abbrev pub diff_outcome : Replayed → Replayed → List Compared → TaskOutcome
 diff_outcome first second ranks = diff_outcome_by (of_stands (first.ends ++ second.ends)) first second ranks
 

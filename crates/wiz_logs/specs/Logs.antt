@@ -23,24 +23,30 @@ use Rattle.wiz_tool.specs.declared.status.Status.TheVariants.{Done}
 use Rattle.wiz_trace.specs.TraceTexts.{trace_text}
 use Rattle.wiz_words.specs.declared.command.ReplayWords.{ReplayWords}
 
+-- the input files of a replay: a log, and a program where one is named
 abbrev pub replay_inputs : ReplayWords Text → List Input
 replay_inputs replay = input MOST_LOG_BYTES replay.log ∷ option_input text_limit replay.program
 
+-- the input files of `refine`: a log and a plan
 abbrev pub refine_inputs : Text → Text → List Input
 refine_inputs log plan = input MOST_LOG_BYTES log ∷ input text_limit plan ∷ []
 
+-- the input files of two logs
 abbrev pub join_inputs : Text → Text → List Input
 join_inputs one other = input MOST_LOG_BYTES one ∷ input MOST_LOG_BYTES other ∷ []
 
+-- what is required of the input files of a replay: a log and its program, or another one
 abbrev pub replay_requirements : List Text → List Requirement
 replay_requirements (bytes ∷ []) = a_log bytes ∷ its_program bytes ∷ []
 replay_requirements (bytes ∷ text ∷ more) = a_log bytes ∷ a_program text ∷ []
 replay_requirements texts = []
 
+-- what is required of the input file of a log
 abbrev pub log_requirements : List Text → List Requirement
 log_requirements (bytes ∷ more) = a_log bytes ∷ []
 log_requirements texts = []
 
+-- what is required of a log and a plan that refines it
 abbrev pub refine_requirements : List Text → List Requirement
 refine_requirements (bytes ∷ plan ∷ more) = a_log bytes ∷ a_plan plan ∷ a_refinement bytes plan ∷ its_program bytes ∷ []
 refine_requirements texts = []
@@ -60,6 +66,7 @@ abbrev pub IsLogOf : List Text → Log → Type 0
 IsLogOf [] log = ⊥
 IsLogOf (bytes ∷ more) log = IsTextOfLog bytes log
 
+-- the text of the program with which a log is replayed
 abbrev pub asked_program : List Text → Log → Text
 asked_program (bytes ∷ text ∷ more) log = text
 asked_program texts log = log.program
@@ -74,6 +81,7 @@ abbrev pub AreLogsOf : List Text → Log → Log → Type 0
 AreLogsOf (bytes ∷ others ∷ more) one other = IsTextOfLog bytes one × IsTextOfLog others other
 AreLogsOf texts one other = ⊥
 
+-- how a replay is told
 abbrev pub replay_outcome : Replayed → TaskOutcome
 replay_outcome replayed = record {
   files = [];

@@ -82,10 +82,12 @@ outcome_by status files text replays = traces_outcome status replays
 abbrev pub regroup_outcome : List NamedFile → Text → List Replayed → TaskOutcome
 regroup_outcome files text replays = outcome_by (of_stands (stands_of replays)) files text replays
 
+-- how a replay is told whose log is refined by a plan
 abbrev pub refine_outcome : Text → Log → Plan → Replayed → TaskOutcome
 refine_outcome prefix log groups replayed =
     regroup_outcome (part_files prefix log.group (refined log replayed.events.events) 0 groups) (refined_text log.group groups) (replayed ∷ [])
 
+-- how the replays of two logs are told that are joined
 abbrev pub join_outcome : Text → Log → Replayed → Log → Replayed → TaskOutcome
 join_outcome file one first other second =
     regroup_outcome (log_file file (joined_log one first.events.events other second.events.events)) (joined_text (both_groups one other)) (first ∷ second ∷ [])

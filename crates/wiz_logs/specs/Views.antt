@@ -59,6 +59,7 @@ abbrev pub view_outcome_by : Status → Text → Replayed → TaskOutcome
 view_outcome_by Done text replayed = done_view_outcome text replayed
 view_outcome_by status text replayed = record { files = []; text = trace_text replayed; status = status; run = None; replays = replayed ∷ [] }
 
+-- how a replay is told of which something is asked
 abbrev pub view_outcome : Text → Replayed → TaskOutcome
 view_outcome text replayed = view_outcome_by (of_stands replayed.ends) text replayed
 

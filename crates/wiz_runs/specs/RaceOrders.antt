@@ -17,6 +17,7 @@ abbrev pub other_name : Text → OtherPick → Text
 other_name prefix other =
     prefix ++ (codes "." ++ (decimal_text other.rank ++ (codes "." ++ (decimal_text other.start ++ (codes "." ++ (decimal_text other.sender ++ codes ".order"))))))
 
+-- the order file of a receive and a message that it could have taken
 abbrev pub other_file : Text → Recording → OtherPick → NamedFile
 other_file prefix recording other =
     record { name = other_name prefix other; bytes = other_order_text recording.history.events recording.picks.written other }

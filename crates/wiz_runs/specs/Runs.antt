@@ -44,9 +44,11 @@ use Rattle.wiz_trace.specs.DemoTexts.{demo_text}
 use Rattle.wiz_words.specs.Words.{is_threaded_run}
 use Rattle.wiz_words.specs.declared.command.RunWords.{RunWords}
 
+-- the input files of a run: a program, a plan, and an order where one is named
 abbrev pub run_inputs : RunWords Text → List Input
 run_inputs run = input text_limit run.program ∷ input text_limit run.plan ∷ option_input order_limit run.order
 
+-- what is required of the input files of a run
 abbrev pub run_requirements : List Text → List Requirement
 run_requirements (text ∷ plan ∷ []) = a_program text ∷ a_plan plan ∷ []
 run_requirements (text ∷ plan ∷ order ∷ more) = a_program text ∷ a_plan plan ∷ an_order plan order ∷ []
@@ -56,6 +58,7 @@ run_requirements texts = []
 abbrev pub demo_texts : ℕ → ℕ → List Text
 demo_texts seed rounds = demo_program seed rounds ∷ demo_plan ∷ []
 
+-- the texts of the input files of a run, by what they are
 abbrev pub run_texts : List Text → RunTexts
 run_texts (text ∷ plan ∷ []) = record { program = text; plan = plan; order = None }
 run_texts (text ∷ plan ∷ order ∷ more) = record { program = text; plan = plan; order = Some order }
@@ -71,6 +74,7 @@ record_outcome prefix recording = record {
   replays = [];
 }
 
+-- how a recording is told whose logs were replayed
 abbrev pub check_outcome : Text → Recording → List Replayed → TaskOutcome
 check_outcome text recording replays = run_outcome (of_ending recording.ending) text recording replays
 
@@ -94,18 +98,21 @@ waits_outcome n recording =
     let events = recording.history.events in
     check_outcome (waits_text n events (graph_of n events) recording.ending) recording []
 
--- how a recording is told: as it is, or when the log of each group is replayed
+-- how a recording is told as it is
 abbrev pub TellsRecord : Text → Program → Plan → Recording → TaskOutcome → Type 0
 TellsRecord prefix program groups recording outcome = outcome ≡ record_outcome prefix recording
 
+-- how a recording is told when the log of each group is replayed
 abbrev pub TellsCheck : (Plan → Recording → List Replayed → Text) → Program → Plan → Recording → TaskOutcome → Type 0
 TellsCheck text program groups recording outcome =
     (replays : List Replayed) × AreChecksOf program recording.history.events recording.logs replays
     × (outcome ≡ check_outcome (text groups recording replays) recording replays)
 
+-- what `check` tells
 abbrev pub checked : Plan → Recording → List Replayed → Text
 checked groups recording replays = check_text groups replays recording.ending
 
+-- what `demo` tells
 abbrev pub demonstrated : ℕ → ℕ → Plan → Recording → List Replayed → Text
 demonstrated seed rounds groups recording replays = demo_text seed rounds recording.history.events groups replays recording.ending
 

@@ -40,6 +40,7 @@ use Rattle.wiz_words.specs.declared.command.RunWords.{RunWords}
 abbrev pub numbered_name : Text → ℕ → Text
 numbered_name prefix number = prefix ++ (codes "." ++ (decimal_text number ++ codes ".order"))
 
+-- the order file of an outcome, by its number
 abbrev pub numbered_file : Text → ℕ → List Turn → NamedFile
 numbered_file prefix number turns = record { name = numbered_name prefix number; bytes = turns_text turns }
 
@@ -63,6 +64,7 @@ search_files prefix explored =
 
 -- ---- what is told
 
+-- whether a run was halted
 abbrev pub is_halted : Ending → Bool
 is_halted Finished = false
 is_halted (WasHalted halt) = true
@@ -125,6 +127,7 @@ pub record Explores (prefix : Text) (most polls : ℕ) (texts : RunTexts) (outco
 
 -- ---- the task
 
+-- the task of a search
 abbrev pub search_task : RunWords Text → Text → ℕ → ℕ → Task
 search_task run prefix most polls =
     record { inputs = run_inputs run; requirements = run_requirements; Does = λ texts. Explores prefix most polls (run_texts texts) }

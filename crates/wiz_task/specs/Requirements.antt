@@ -28,6 +28,7 @@ pub data Requirement : Type 0 where
   a_join : List ℕ → List ℕ → Requirement
   a_comparison : List ℕ → List ℕ → Requirement
 
+-- a requirement that its texts meet
 abbrev pub IsMet : Requirement → Type 0
 IsMet (a_program text) = (program : TypedProgram) × IsProgramOf text program
 IsMet (a_plan text) = (groups : Plan) × IsPlanText text groups
@@ -39,31 +40,37 @@ IsMet (a_refinement bytes plan) = (log : Log) × (groups : Plan) × IsTextOfLog 
 IsMet (a_join bytes others) = (one : Log) × (other : Log) × IsTextOfLog bytes one × IsTextOfLog others other × CanJoin one other
 IsMet (a_comparison bytes others) = (one : Log) × (other : Log) × IsTextOfLog bytes one × IsTextOfLog others other × CanCompare one other
 
--- the first fault of each text; of a log in the format that its first five bytes choose
+-- the first fault of a program's text
 abbrev pub IsProgramRefusal : Text → Refusal → Type 0
 IsProgramRefusal text (Program fault) = IsFaultOf text fault
 IsProgramRefusal text refusal = ⊥
 
+-- the first fault of a plan's text
 abbrev pub IsPlanRefusal : Text → Refusal → Type 0
 IsPlanRefusal text (BadPlan fault) = IsPlanFault text fault
 IsPlanRefusal text refusal = ⊥
 
+-- the first fault of an order's text
 abbrev pub IsOrderRefusal : ℕ → Text → Refusal → Type 0
 IsOrderRefusal n text (BadOrder fault) = IsOrderFault n text fault
 IsOrderRefusal n text refusal = ⊥
 
+-- the first fault of a log, in the format that its first five bytes choose
 abbrev pub IsLogRefusal : List ℕ → Refusal → Type 0
 IsLogRefusal bytes (BadLog fault) = IsFaultOfLog bytes fault
 IsLogRefusal bytes refusal = ⊥
 
+-- why a log cannot be refined by a plan
 abbrev pub IsRefineRefusal : Log → Plan → Refusal → Type 0
 IsRefineRefusal log groups (BadRefine fault) = IsRefineFault log groups fault
 IsRefineRefusal log groups refusal = ⊥
 
+-- why two logs cannot be joined
 abbrev pub IsJoinRefusal : Log → Log → Refusal → Type 0
 IsJoinRefusal one other (BadJoin fault) = IsJoinFault one other fault
 IsJoinRefusal one other refusal = ⊥
 
+-- why two logs cannot be compared
 abbrev pub IsCompareRefusal : Log → Log → Refusal → Type 0
 IsCompareRefusal one other (BadCompare fault) = IsCompareFault one other fault
 IsCompareRefusal one other refusal = ⊥
@@ -89,6 +96,7 @@ IsFirstUnmet [] refusal = ⊥
 IsFirstUnmet (requirement ∷ requirements) refusal =
     IsUnmetBy requirement refusal ⊎ (IsMet requirement × IsFirstUnmet requirements refusal)
 
+-- requirements that are all met
 abbrev pub AreMet : List Requirement → Type 0
 AreMet [] = Unit {0}
 AreMet (requirement ∷ requirements) = IsMet requirement × AreMet requirements

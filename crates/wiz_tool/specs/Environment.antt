@@ -4,18 +4,21 @@ use denote.Triple.Both.{Both}
 use Rattle.wiz_io.specs.Files.{ObservedFiles}
 use Rattle.wiz_io.specs.Output.{ObservedOutput}
 
+-- what a call meets: the files and the output
 pub record Environment : Type 0 where
   pub store : ObservedFiles
   pub out : ObservedOutput
 
+-- the environment of these files and this output
 abbrev pub environment : ObservedFiles → ObservedOutput → Environment
 environment store out = record { store = store; out = out }
 
--- that of a call before it and after it
+-- the environment of a call, before it and after it
 pub record Around : Type 0 where
   pub before : Environment
   pub after : Environment
 
+-- the environment before a call and after it
 abbrev pub around_of : Environment → Environment → Around
 around_of before after = record { before = before; after = after }
 

@@ -10,13 +10,15 @@ pub record Input : Type 0 where
   pub name : List ℕ
   pub limit : ℕ
 
--- the most bytes of a program and of a plan, and of an order; that of a log is `MOST_LOG_BYTES`
+-- the most bytes of a program, and of a plan; that of a log is `MOST_LOG_BYTES`
 abbrev pub text_limit : ℕ
 text_limit = TEXT_LIMIT
 
+-- the most bytes of an order
 abbrev pub order_limit : ℕ
 order_limit = ORDER_LIMIT
 
+-- an input file and how many bytes it may have
 abbrev pub input : ℕ → List ℕ → Input
 input limit name = record { name = name; limit = limit }
 

@@ -47,7 +47,7 @@ fault_why w.BadFormat = codes "bad format"
 fault_why w.LeftOut = codes "left out"
 fault_why w.NoMemory = codes "no memory"
 
--- what is wrong with a plan, and with an order
+-- what is wrong with a plan
 abbrev pub plan_message : PlanFault → List ℕ
 plan_message (BadLine line) = codes "plan line " ++ decimal_text line ++ codes "\n"
 plan_message TooManyRanks = codes "plan too many ranks\n"
@@ -56,15 +56,17 @@ plan_message (Repeated rank) = codes "plan repeated " ++ decimal_text rank ++ co
 plan_message (Gap rank) = codes "plan gap " ++ decimal_text rank ++ codes "\n"
 plan_message PlanMemory = codes "plan no memory\n"
 
+-- what is wrong with an order
 abbrev pub order_message : OrderFault → List ℕ
 order_message (BadRankLine line) = codes "order line " ++ decimal_text line ++ codes "\n"
 order_message OrderMemory = codes "order no memory\n"
 
--- why a log cannot be refined by a plan, and two logs cannot be joined
+-- why a log cannot be refined by a plan
 abbrev pub refine_message : RefineFault → List ℕ
 refine_message (PlanRanks plan log) = codes "plan ranks " ++ decimal_text plan ++ codes " log ranks " ++ decimal_text log ++ codes "\n"
 refine_message (Crosses group) = codes "plan group " ++ decimal_text group ++ codes " crosses\n"
 
+-- why two logs cannot be joined
 abbrev pub join_message : JoinFault → List ℕ
 join_message (LogRanks one two) = codes "ranks " ++ decimal_text one ++ codes " " ++ decimal_text two ++ codes "\n"
 join_message Programs = codes "programs differ\n"

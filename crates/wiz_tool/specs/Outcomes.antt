@@ -62,6 +62,7 @@ IsPartlyDone outcome before after =
     ⊎ ((name : List ℕ) × IsStoppedAt before.store.files after.store.files outcome.files name
     × HasRisen before.store.writes after.store.writes × GrewByPart before.out.bytes after.out.bytes (unwritten_text name)))
 
+-- what a report says of a command: all was done, a file could not be written, or memory was wanting
 abbrev pub IsReported : TaskOutcome → Environment → Environment → Report → Type 0
 IsReported outcome before after report =
     IsCarriedOut outcome before after report
@@ -74,6 +75,7 @@ pub record IsUntouched (before after : Environment) : Type 0 where
 
 -- ---- outcomes
 
+-- the outcome of a command that puts out a text and does nothing else
 abbrev pub text_outcome : List ℕ → TaskOutcome
 text_outcome text = record { files = []; text = text; status = Done; run = None; replays = [] }
 

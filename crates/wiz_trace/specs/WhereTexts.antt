@@ -22,6 +22,7 @@ abbrev pub sent_text_by : Role → MessagePlace → List ℕ
 sent_text_by Sent place = codes "sent " ++ spot_text place ++ codes "\n"
 sent_text_by role place = []
 
+-- the same, by what is done at the place
 abbrev pub sent_text : MessagePlace → List ℕ
 sent_text place = sent_text_by place.role place
 
@@ -31,13 +32,16 @@ got_text_by Sent place = []
 got_text_by Found place = codes "found " ++ answered_text place
 got_text_by Took place = codes "took " ++ answered_text place
 
+-- the same, by what is done at the place
 abbrev pub got_place_text : MessagePlace → List ℕ
 got_place_text place = got_text_by place.role place
 
+-- whether a message is taken
 abbrev pub is_taking : Role → Bool
 is_taking Took = true
 is_taking role = false
 
+-- whether a message is taken at a place
 abbrev pub is_taking_place : MessagePlace → Bool
 is_taking_place place = is_taking place.role
 

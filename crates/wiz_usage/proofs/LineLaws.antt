@@ -1,4 +1,4 @@
--- A line of a text: under an equal text and number, what is left behind its first line, and that a place has one.
+-- A line of a text: under an equal text and number, and what is left behind its first line.
 use Rattle.std.proofs.Common.{◌≡◌, ◌+◌, ◌-◌, ◌<◌, ℕ, suc, List, Option, Some, None, refl, subst, sym, arith}
 use Rattle.std.specs.Borrow.{Bor}
 use Rattle.std.specs.Option.{option_copied}

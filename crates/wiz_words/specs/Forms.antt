@@ -30,6 +30,7 @@ verb_name At = codes "at"
 verb_name Where = codes "where"
 verb_name Explore = codes "explore"
 
+-- the commands, in the order in which help lists them
 abbrev pub verbs : List Verb
 verbs = Record ∷ Check ∷ Races ∷ Advise ∷ Demo ∷ Replay ∷ Show ∷ Stats ∷ Convert ∷ Refine ∷ Join ∷ Diff ∷ Waits ∷ Picture ∷ Watch ∷ At ∷ Where ∷ Explore ∷ []
 

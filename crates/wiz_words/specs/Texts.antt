@@ -12,9 +12,11 @@ use Rattle.wiz_words.specs.declared.command.RunWords.{RunWords}
 abbrev pub texts : List (Bor Text) → List Text
 texts words = map (λ word. word.now) words
 
+-- the arguments of a run, with the texts that code borrows
 abbrev pub run_with_texts : RunWords (Bor Text) → RunWords Text
 run_with_texts run = record { program = run.program.now; plan = run.plan.now; order = option_map (λ text. text.now) run.order; is_serial = run.is_serial }
 
+-- the arguments of a replay, with the texts that code borrows
 abbrev pub replay_with_texts : ReplayWords (Bor Text) → ReplayWords Text
 replay_with_texts replay = record { log = replay.log.now; program = option_map (λ text. text.now) replay.program; stop = replay.stop; is_serial = replay.is_serial }
 

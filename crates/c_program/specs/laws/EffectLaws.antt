@@ -360,6 +360,7 @@ completing_keeps n me own requests mode answer (one ∷ more) s go good are on =
 
 -- ---- effects
 
+-- an effect that is performed keeps the laws, where what goes on behind it does
 abbrev IsPerformed : Effect → Type 0
 IsPerformed effect = (n me : ℕ) (own : View) (s : State) (go : Onward) → IsGoodState n me own s → IsProperEffect n me own effect → KeepsOn n me go → KeepsLaws n me own s.printed (perform (rank_of n me) effect s go)
 

@@ -36,6 +36,7 @@ KeepsLaws n me own printed (Asks s call go) =
 abbrev pub KeepsOn : ℕ → ℕ → Onward → Type 0
 KeepsOn n me go = (own : View) (s : State) → IsGoodState n me own s → KeepsLaws n me own s.printed (go s)
 
+-- each way out of a statement keeps the laws
 pub record KeepsExits (n me : ℕ) (k : Exits) : Type 0 where
   pub next : KeepsOn n me k.next
   pub broke : KeepsOn n me k.broke
@@ -47,6 +48,7 @@ abbrev pub IsPassable : Passed → Type 0
 IsPassable (Number v) = Unit {0}
 IsPassable (Lent cells) = cells.length ≤ MOST_CELLS
 
+-- calls of functions keep the laws, where what goes on behind them does
 abbrev pub KeepCalls : ℕ → ℕ → FunctionMeaning → Type 0
 KeepCalls n me calls =
     (function : ℕ) (arguments : List Passed) (own : View) (s : State) (go : ℤ → Onward)

@@ -65,6 +65,7 @@ length-entered EntersNothing s = refl
 length-entered (EntersCells cells) s = length-values_from cells.from cells.length s
 length-entered (Pair colour key) s = refl
 
+-- an effect within the bounds of calls
 abbrev pub IsProperEffect : ℕ → ℕ → View → Effect → Type 0
 IsProperEffect n me own (Starts (StartSend m) request) = IsProperMessage n m
 IsProperEffect n me own (Starts (StartReceive r) request) = IsWanted n r.source r.tag
@@ -77,6 +78,7 @@ IsProperEffect n me own effect = Unit {0}
 
 -- ---- results without a fault
 
+-- a property of a result, where it is no fault
 abbrev pub HoldsUnlessFault : {A : Type 0} → (A → Type 0) → Result A Fault → Type 0
 HoldsUnlessFault P (Ok x) = P x
 HoldsUnlessFault P (Err fault) = Unit {0}
@@ -107,6 +109,7 @@ if_holds P false x y holds fails = fails refl
 
 -- ---- ranges
 
+-- cells that are no more than may be passed
 abbrev pub HasFewCells : Cells → Type 0
 HasFewCells cells = cells.length ≤ MOST_CELLS
 

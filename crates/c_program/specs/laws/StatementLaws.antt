@@ -38,10 +38,12 @@ abbrev KeepPassing : ℕ → ℕ → Passing → Type 0
 KeepPassing n me passing =
     (own : View) (s : State) (go : Onward) → IsGoodState n me own s → KeepsOn n me go → KeepsLaws n me own s.printed (passing s go)
 
+-- a meaning with four ways out keeps the laws, where each of them does
 abbrev KeepMeaning : ℕ → ℕ → Meaning → Type 0
 KeepMeaning n me meaning =
     (own : View) (s : State) (k : Exits) → IsGoodState n me own s → KeepsExits n me k → KeepsLaws n me own s.printed (meaning s k)
 
+-- a variable of no more cells than may stand
 abbrev IsSlotInBounds : Slot → Type 0
 IsSlotInBounds slot = slot.cells.length ≤ MOST_CELLS
 

@@ -12,6 +12,7 @@ use Rattle.c_scope.specs.declared.meaning.Entity.{Entity}
 abbrev pub DeclarationTable : Type 0
 DeclarationTable = List (Bor (List ℕ) × Option DeclaredName)
 
+-- the declaration under a name, where the table has one
 abbrev pub declaration_or_none : Option (Option DeclaredName) → Option DeclaredName
 declaration_or_none None = None
 declaration_or_none (Some declaration) = declaration
@@ -44,14 +45,17 @@ innermost_declaration [] name = None
 innermost_declaration (opening ∷ outer) name = innermost_declaration outer name
 innermost_declaration (named other entity ∷ outer) name = if bytes_eq other name then Some (declaration_after outer entity) else innermost_declaration outer name
 
+-- what is declared
 abbrev pub entity_of : Option DeclaredName → Option Entity
 entity_of None = None
 entity_of (Some declaration) = Some declaration.entity
 
+-- how many variables stand before a declaration
 abbrev pub variables_before : Option DeclaredName → ℕ
 variables_before None = 0
 variables_before (Some declaration) = declaration.variables
 
+-- whether a declaration stands in this many blocks
 abbrev pub is_at : ℕ → Option DeclaredName → Bool
 is_at depth None = false
 is_at depth (Some declaration) = declaration.depth == depth

@@ -6,6 +6,7 @@ use Rattle.c_scope.specs.inside.Innermost.{DeclarationTable, declared_in, depth_
 use Rattle.c_scope.specs.declared.declarations.Placed.{Placed}
 use Rattle.c_scope.specs.declared.declarations.Placed.TheVariants as p
 
+-- what is placed, without the declaration that it hides
 abbrev pub entry_view : Placed → Entry
 entry_view p.Opening = opening
 entry_view (p.Named name entity hidden) = named name.now entity
@@ -14,6 +15,7 @@ entry_view (p.Named name entity hidden) = named name.now entity
 abbrev pub scope_entries : List Placed → List Entry
 scope_entries inner = map entry_view inner
 
+-- what was placed, in order, as entries with the innermost first
 abbrev pub entries_view : List Placed → List Entry
 entries_view placed = scope_entries (reverse placed)
 

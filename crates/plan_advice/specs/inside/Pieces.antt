@@ -15,20 +15,23 @@ use Rattle.plan_advice.specs.declared.pieces.Piece.{Piece}
 use Rattle.plan_advice.specs.declared.span.RunRank.{RunRank}
 use Rattle.plan_advice.specs.Costs.{ints_of_entry, ints_in_mark}
 
--- the ints that a start gives, and that some items, a reply and all replies of a run give
+-- the ints that a start gives
 abbrev pub ints_of_got : Got → ℕ
 ints_of_got (Message source start tag ints) = length ints
 ints_of_got (Joined ints) = length ints
 ints_of_got got = 0
 
+-- the ints that some items give
 abbrev pub ints_of_items : List Item → ℕ
 ints_of_items [] = 0
 ints_of_items (item ∷ items) = ints_of_got item.got + ints_of_items items
 
+-- the ints that a reply gives
 abbrev pub ints_of_reply : Reply → ℕ
 ints_of_reply (Took items) = ints_of_items items
 ints_of_reply reply = 0
 
+-- the ints that all replies of a run give
 abbrev pub ints_given : List Event → ℕ
 ints_given [] = 0
 ints_given (event ∷ events) = ints_of_reply event.reply + ints_given events
@@ -47,10 +50,11 @@ pub record HasRank (rank begin end : ℕ) : Type 0 where
 abbrev pub is_within : ℕ → ℕ → ℕ → ℕ → Bool
 is_within begin end least greatest = nat_le begin least && nat_lt greatest end
 
--- the ints that the block's log keeps of a piece, and of some pieces: not all ranks that they came from are in the block
+-- the ints that the block's log keeps of a piece: not all ranks that they came from are in the block
 abbrev pub kept_ints : ℕ → ℕ → Piece → ℕ
 kept_ints begin end piece = if is_within begin end piece.least piece.greatest then 0 else piece.ints
 
+-- the ints that the block's log keeps of some pieces
 abbrev pub kept_in : ℕ → ℕ → List Piece → ℕ
 kept_in begin end pieces = sum_by (λ piece. kept_ints begin end piece) pieces
 

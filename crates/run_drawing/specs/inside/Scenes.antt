@@ -63,11 +63,12 @@ pub record IsScene (scene : Scene) : Type 0 where
   pub sends : AreSends scene.causes.events scene.sends
   pub behind : scene.behind ≡ behind_all scene.causes.events scene.depths.items
 
--- how many Sends of a way are skipped
+-- a number, or 0 where there is none
 abbrev pub or_zero : Option ℕ → ℕ
 or_zero None = 0
 or_zero (Some count) = count
 
+-- how many Sends of a way are skipped
 abbrev pub skipped_at : List (Way × ℕ) → Way → ℕ
 skipped_at table way = or_zero (lookup (same_way way) table)
 

@@ -15,6 +15,7 @@ use Rattle.srr_log.specs.declared.limits.TheConstants.{GREATEST_NUMBER}
 use Rattle.srr_log.specs.FaultNumbers.{fault_numbered}
 use Rattle.srr_log.specs.inside.Pieces.{◌>>=◌, after_word, split_once, pieces, all_of, number_in, int_in, rank_in}
 
+-- ints with a comma between each two
 abbrev pub ints_in : List ℕ → Option (List ℤ)
 ints_in text = all_of int_in (pieces 44 text)
 
@@ -23,6 +24,7 @@ unfoldable pub few_ints_in : ℕ → List ℕ → Option (List ℤ)
 few_ints_in most text =
     if length text == 0 then Some [] else (ints_in text >>= λ ints. if nat_le (length ints) most then Some ints else None)
 
+-- ranks with a mark between each two
 abbrev pub ranks_in : ℕ → ℕ → List ℕ → Option (List ℕ)
 ranks_in mark n text = all_of (rank_in n) (pieces mark text)
 
@@ -44,6 +46,7 @@ outside_in n group text = do
   tag ← number_in GREATEST_TAG others.1
   if is_member group source then None else Some (source, start, tag)
 
+-- a message, from inside where its ints are not said, else from outside
 abbrev pub message_split : ℕ → List ℕ → List ℕ → Option (List ℕ × List ℕ) → Option Mark
 message_split n group text None = inside_in n group text >>= λ name. Some (Inside name.0 name.1)
 message_split n group text (Some parts) = do
@@ -55,6 +58,7 @@ message_split n group text (Some parts) = do
 unfoldable pub message_in : ℕ → List ℕ → List ℕ → Option Mark
 message_in n group text = message_split n group text (split_once 58 text)
 
+-- a communicator that was made, inside where its members are not said, else outside
 abbrev pub made_split : ℕ → List ℕ → Option (List ℕ × List ℕ) → Option Mark
 made_split n text None = number_in GREATEST_NUMBER text >>= λ comm. Some (Made comm)
 made_split n text (Some parts) = do
@@ -66,6 +70,7 @@ made_split n text (Some parts) = do
 unfoldable pub made_in : ℕ → List ℕ → Option Mark
 made_in n text = made_split n text (split_once 58 text)
 
+-- a mark of more than one word: a result, a communicator, or a message
 abbrev pub long_mark : ℕ → List ℕ → List ℕ → Option (List ℕ) → Option (List ℕ) → Option Mark
 long_mark n group text (Some outer) made = few_ints_in MOST_RESULT_INTS outer >>= λ ints. Some (Outer ints)
 long_mark n group text None (Some made) = made_in n made
@@ -75,6 +80,7 @@ long_mark n group text None None = message_in n group text
 unfoldable pub long_mark_in : ℕ → List ℕ → List ℕ → Option Mark
 long_mark_in n group text = long_mark n group text (after_word (codes "c:") text) (after_word (codes "m.") text)
 
+-- a mark
 unfoldable pub mark_in : ℕ → List ℕ → List ℕ → Option Mark
 mark_in n group text =
     if bytes_eq text (codes "s") then Some MarkSent
@@ -82,6 +88,7 @@ mark_in n group text =
     else if bytes_eq text (codes "c") then Some Inner
     else long_mark_in n group text
 
+-- a completed start: its index and its mark
 unfoldable pub item_in : ℕ → List ℕ → List ℕ → Option Marked
 item_in n group text = do
   parts ← split_once 61 text
@@ -89,9 +96,11 @@ item_in n group text = do
   mark ← mark_in n group parts.1
   Some (record { index = index; mark = mark })
 
+-- items with a blank between each two
 abbrev pub all_items_in : ℕ → List ℕ → List ℕ → Option (List Marked)
 all_items_in n group text = all_of (item_in n group) (pieces 32 text)
 
+-- the places of items in the list of the call
 abbrev pub indices : List Marked → List ℕ
 indices items = map (λ item. item.index) items
 
@@ -101,6 +110,7 @@ items_in n group text = do
   items ← all_items_in n group text
   if rises 0 (indices items) then Some items else None
 
+-- a message that a probe found, from inside where its count is not said, else from outside
 abbrev pub peek_split : ℕ → List ℕ → List ℕ → Option (List ℕ × List ℕ) → Option Entry
 peek_split n group text None = inside_in n group text >>= λ name. Some (PeekedInside name.0 name.1)
 peek_split n group text (Some parts) = do
@@ -121,6 +131,7 @@ detail_in kind rank text =
     else if bytes_eq kind (codes "5") then (number_in GREATEST_NUMBER text >>= λ start. Some (BadRequest rank start))
     else None
 
+-- a halt that names a rank and something of it
 unfoldable pub detailed_in : ℕ → List ℕ → List ℕ → Option Halt
 detailed_in n kind text = do
   parts ← split_once 32 text
@@ -133,12 +144,14 @@ named_in n text = do
   parts ← split_once 32 text
   if bytes_eq parts.0 (codes "4") then (rank_in n parts.1 >>= λ rank. Some (Mismatched rank)) else detailed_in n parts.0 parts.1
 
+-- a halt
 unfoldable pub halt_in : ℕ → List ℕ → Option Halt
 halt_in n text =
     if bytes_eq text (codes "6") then Some Limit
     else if bytes_eq text (codes "7") then Some Stuck
     else named_in n text
 
+-- an entry of more than one word: items, a probe, or a halt
 abbrev pub long_entry : ℕ → List ℕ → Option (List ℕ) → Option (List ℕ) → Option (List ℕ) → Option Entry
 long_entry n group (Some items) peek halt = items_in n group items >>= λ items. Some (Took items)
 long_entry n group None (Some peek) halt = peek_in n group peek
@@ -149,6 +162,7 @@ long_entry n group None None None = None
 unfoldable pub long_entry_in : ℕ → List ℕ → List ℕ → Option Entry
 long_entry_in n group line = long_entry n group (after_word (codes "t ") line) (after_word (codes "k ") line) (after_word (codes "x ") line)
 
+-- an entry
 unfoldable pub entry_in : ℕ → List ℕ → List ℕ → Option Entry
 entry_in n group line =
     if bytes_eq line (codes "s") then Some Sent

@@ -9,6 +9,7 @@ use Rattle.srr_log.specs.declared.read_error.Unread.{Unread}
 use Rattle.srr_log.specs.declared.read_error.Unread.TheVariants.{NotAllowed, NoMemory}
 
 infixl 10 ◌>>=◌
+-- one reading after another, where the first reads something
 abbrev pub ◌>>=◌ : {A B : Type 0} → Option A → (A → Option B) → Option B
 (Some value) >>= f = f value
 None >>= f = None
@@ -19,10 +20,12 @@ GivesPiece (Ok value) said = said ≡ Some value
 GivesPiece (Err NotAllowed) said = said ≡ None
 GivesPiece (Err NoMemory) said = Unit {0}
 
+-- code gives the text that is said, or nothing where none is
 abbrev pub GivesText : Option (Bor (List ℕ)) → Option (List ℕ) → Type 0
 GivesText (Some rest) said = said ≡ Some rest.now
 GivesText None said = said ≡ None
 
+-- code gives the two texts that are said, or nothing where none are
 abbrev pub GivesSplit : Option (Bor (List ℕ) × Bor (List ℕ)) → Option (List ℕ × List ℕ) → Type 0
 GivesSplit (Some parts) said = said ≡ Some (parts.0.now, parts.1.now)
 GivesSplit None said = said ≡ None
@@ -33,6 +36,7 @@ after_word [] text = Some text
 after_word (byte ∷ word) [] = None
 after_word (byte ∷ word) (first ∷ text) = if byte == first then after_word word text else None
 
+-- a byte more before the first of two texts
 abbrev pub with_byte : ℕ → Option (List ℕ × List ℕ) → Option (List ℕ × List ℕ)
 with_byte byte (Some parts) = Some (byte ∷ parts.0, parts.1)
 with_byte byte None = None
@@ -59,10 +63,12 @@ unfoldable pub number_in : ℕ → List ℕ → Option ℕ
 number_in most text =
     if bytes_eq text (decimal_text (digits_value 10 text)) && nat_le (digits_value 10 text) most then Some (digits_value 10 text) else None
 
+-- the value of digits, which may have a minus before them
 abbrev pub signed_value : List ℕ → ℤ
 signed_value [] = pos 0
 signed_value (byte ∷ text) = if byte == 45 then neg_ℤ (pos (digits_value 10 text)) else pos (digits_value 10 (byte ∷ text))
 
+-- a value that an int of 32 bits can have
 abbrev pub is_int : ℤ → Bool
 is_int (pos n) = nat_lt n 2147483648
 is_int (negsuc n) = nat_lt n 2147483648

@@ -18,5 +18,6 @@ pub record IsFoundAt (n : ℕ) (G : List Event) (rank : ℕ) (call : Option Call
   pub next : found.next ≡ next_at n G rank call
   pub hopeless : found.is_hopeless ≡ is_hopeless_at n G rank call
 
+-- of a rank of a run that is stuck
 abbrev pub IsRankFinding : ℕ → List Event → ℕ → RankFinding → Type 0
 IsRankFinding n events rank found = IsFoundAt n (going events) rank (stopped_call events rank) found

@@ -13,9 +13,11 @@ use Rattle.wiz_task.specs.Tasks.{IsDoneFor, IsRefusedFor}
 use Rattle.wiz_task.specs.inside.Ends.{EndsBy}
 use Rattle.wiz_tool.specs.Environment.{Around, Environment}
 
+-- the refusal of arguments that ask for nothing
 abbrev pub refused_words : Refused
 refused_words = record { refusal = Words; name = [] }
 
+-- why arguments are refused: they ask for nothing, or what they ask for is refused
 abbrev pub IsRefusedForWords : Asking → List Text → Environment → Environment → Refused → Type 0
 IsRefusedForWords Ask words before after refused =
     (((command : Command Text) → Ask words command → ⊥) × (refused ≡ refused_words))

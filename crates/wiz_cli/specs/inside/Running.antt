@@ -13,17 +13,19 @@ use Rattle.wiz_task.specs.declared.ready.Ready.{Ready}
 use Rattle.wiz_task.specs.inside.Recording.{CanRun, IsMadeRecording}
 use Rattle.wiz_task.specs.inside.Replaying.{IsReplayBy}
 
--- what such calls may be made with
+-- what a recording may be made of
 abbrev pub TakesReady : Type 1
 TakesReady = Bor Ready → Type 0
 
+-- what a replay may be made of
 abbrev pub TakesLog : Type 1
 TakesLog = Bor CProgram → Bor Log → Breakpoint → Type 0
 
--- what they answer
+-- what a recording answers
 abbrev pub GivesRecording : Type 1
 GivesRecording = Bor Ready → Result Recording AllocError → Type 0
 
+-- what a replay answers
 abbrev pub GivesReplay : Type 1
 GivesReplay = Bor CProgram → Bor Log → Breakpoint → Result Replayed AllocError → Type 0
 

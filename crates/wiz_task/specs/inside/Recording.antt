@@ -20,6 +20,7 @@ pub record IsReadyToRecord (texts : RunTexts) (ready : Ready) : Type 0 where
   pub short : length texts.program ≤ text_limit
   pub prepared : ArePrepared texts (pure_program ready.program) ready.plan ready.turns
 
+-- what can be run: the texts that it was read from are a program, a plan and an order
 abbrev pub CanRun : Ready → Type 0
 CanRun ready = (texts : RunTexts) × IsReadyToRecord texts ready
 

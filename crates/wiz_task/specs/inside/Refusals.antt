@@ -15,12 +15,14 @@ abbrev pub AreRefusedTurns : ℕ → Option Text → Refused → Type 0
 AreRefusedTurns n None refused = ⊥
 AreRefusedTurns n (Some text) refused = IsOrderRefusal n text refused.refusal × (refused.name ≡ [])
 
--- a log cannot be refined by the groups of a plan, or joined or compared with another log
+-- a log cannot be refined by the groups of a plan
 abbrev pub IsRefusedRefinement : Log → Plan → Refused → Type 0
 IsRefusedRefinement log groups refused = IsRefineRefusal log groups refused.refusal × (refused.name ≡ [])
 
+-- two logs cannot be joined
 abbrev pub IsRefusedJoin : Log → Log → Refused → Type 0
 IsRefusedJoin one other refused = IsJoinRefusal one other refused.refusal × (refused.name ≡ [])
 
+-- two logs cannot be compared
 abbrev pub IsRefusedComparison : Log → Log → Refused → Type 0
 IsRefusedComparison one other refused = IsCompareRefusal one other refused.refusal × (refused.name ≡ [])

@@ -23,10 +23,11 @@ pub record CountsGrewBy (before after more : EntryCounts) : Type 0 where
   pub ints : after.ints ≡ before.ints + more.ints
   pub not_yet : after.not_yet ≡ before.not_yet + more.not_yet
 
--- the counts of a mark, of some items, of an entry, and of some entries
+-- the counts of a mark
 abbrev pub mark_counts : Mark → EntryCounts
 mark_counts mark = record { entries = 0; inner = inner_in_mark mark; outer = outer_in_mark mark; ints = ints_in_mark mark; not_yet = 0 }
 
+-- the counts of some items
 abbrev pub items_counts : List Marked → EntryCounts
 items_counts items =
     record {
@@ -37,9 +38,11 @@ items_counts items =
       not_yet = 0;
     }
 
+-- the counts of an entry
 abbrev pub entry_counts : Entry → EntryCounts
 entry_counts entry = record { entries = 1; inner = inner_in entry; outer = outer_in entry; ints = ints_of_entry entry; not_yet = not_yet_in entry }
 
+-- the counts of some entries
 abbrev pub entries_counts : List Entry → EntryCounts
 entries_counts entries =
     record {
@@ -50,16 +53,19 @@ entries_counts entries =
       not_yet = sum_by not_yet_in entries;
     }
 
--- by those of a mark, of some items, of an entry, and of some entries
+-- by those of a mark
 abbrev pub GrewByMark : EntryCounts → EntryCounts → Mark → Type 0
 GrewByMark before after mark = CountsGrewBy before after (mark_counts mark)
 
+-- by those of some items
 abbrev pub GrewByItems : EntryCounts → EntryCounts → List Marked → Type 0
 GrewByItems before after items = CountsGrewBy before after (items_counts items)
 
+-- by those of an entry
 abbrev pub GrewByEntry : EntryCounts → EntryCounts → Entry → Type 0
 GrewByEntry before after entry = CountsGrewBy before after (entry_counts entry)
 
+-- by those of some entries
 abbrev pub GrewByEntries : EntryCounts → EntryCounts → List Entry → Type 0
 GrewByEntries before after entries = CountsGrewBy before after (entries_counts entries)
 
@@ -71,5 +77,6 @@ pub record AreCountsOf (list : List Entry) (counts : EntryCounts) : Type 0 where
   pub ints : counts.ints ≡ sum_by ints_of_entry list
   pub not_yet : counts.not_yet ≡ sum_by not_yet_in list
 
+-- the line of these counts
 abbrev pub line_of : EntryCounts → List ℕ
 line_of counts = counts_line counts.entries counts.inner counts.outer counts.ints counts.not_yet
