@@ -1,16 +1,13 @@
 -- Each text has tokens or a first fault.
-use Rattle.std.proofs.Common.{◌≡◌, ◌≢◌, ◌⊎◌, inl, inr, ◌<◌, ◌≤◌, ◌+◌, ◌-◌, ◌*◌, ◌==◌, ◌||◌, cond, ℕ, zero, suc, Bool, true, false, List, [], ◌∷◌, length, slice_index, refl, sym, ap, ◌∙◌, subst, arith}
+use Rattle.std.proofs.Common.{◌≡◌, ◌≢◌, ◌⊎◌, inl, inr, ◌<◌, ◌≤◌, ◌+◌, ◌-◌, ◌*◌, ◌==◌, ◌||◌, cond, ℕ, zero, suc, Bool, true, false, List, [], length, slice_index, refl, sym, ap, ◌∙◌, subst, arith}
 use Rattle.std.specs.Prelude.{slice_range, nat_le, if◌then◌else◌, codes, take, count_by}
-use Rattle.std.specs.Char.{digit_value}
 use Rattle.std.specs.Str.{bytes_eq}
-use Rattle.std.specs.Str.Parse.{AllDigits}
 use Rattle.std.proofs.lemmas.Bool.{cases_Bool, cases_order, eq-eqb, eqb-true, le-leb, leb-true, ltb-true, false_from_ne_true}
 use Rattle.std.proofs.lemmas.Slice.Eq.{bytes_eq-Decides}
-use Rattle.c_lex.specs.declared.limits.TheConstants.{GREATEST_LITERAL}
 use Rattle.c_lex.specs.Bytes.{IsStretch, is_in_class}
 use Rattle.c_lex.specs.Marks.{mark_length}
 use Rattle.c_lex.specs.Openings.{opening}
-use Rattle.c_lex.specs.Literals.{IsLiteral, base, digits_of, literal_value}
+use Rattle.c_lex.specs.Literals.{is_literal}
 use Rattle.c_lex.specs.Words.{is_left_out}
 use Rattle.c_lex.specs.Comments.{closes, IsFirstClose, NeverCloses}
 use Rattle.c_lex.specs.Texts.{Inside, ends, goes_on, ends_line, character_length}
@@ -140,33 +137,6 @@ inside_within (suc n) text at low few = elim (cases_order 0 (character_length te
 
 -- ---- words
 
-all_digits_or_not : (radix : ℕ) (cs : List ℕ) → AllDigits radix cs ⊎ (AllDigits radix cs → ⊥)
-all_digits_or_not radix [] = inl tt
-all_digits_or_not radix (c ∷ cs) = elim (cases_order (digit_value c) radix) [
-  | inl e ↦ inr (λ h. let less = h.0 in omega arith)
-  | inr (inl less) ↦ elim (all_digits_or_not radix cs) [ inl all ↦ inl (less, all) | inr never ↦ inr (λ h. never h.1) ]
-  | inr (inr more) ↦ inr (λ h. let less = h.0 in omega arith)
-]
-
-small_or_not : (n m : ℕ) → (n ≤ m) ⊎ (n ≤ m → ⊥)
-small_or_not n m = elim (cases_order n m) [
-  | inl e ↦ inl (omega arith)
-  | inr (inl less) ↦ inl (omega arith)
-  | inr (inr more) ↦ inr (λ h. omega arith)
-]
-
-literal_or_not : (word : List ℕ) → IsLiteral word ⊎ (IsLiteral word → ⊥)
-literal_or_not word = elim (small_or_not 1 (length (digits_of word))) [
-  | inl some ↦ elim (all_digits_or_not (base word) (digits_of word)) [
-    | inl all ↦ elim (small_or_not (literal_value word) GREATEST_LITERAL) [
-      | inl small ↦ inl ((omega arith, all), small)
-      | inr never ↦ inr (λ h. never h.1)
-    ]
-    | inr never ↦ inr (λ h. never h.0.1)
-  ]
-  | inr none ↦ inr (λ h. none (let some = h.0.0 in omega arith))
-]
-
 is_word : (word other : List ℕ) → bytes_eq word other ≡ true → other ≡ word
 is_word word other test = sym ((bytes_eq-Decides word other).0 test)
 
@@ -263,9 +233,9 @@ module _ (text : List ℕ) (at : ℕ) (less : at < length text) where
   digits d =
       let end = run InWord text (at + 1) (length text) (omega arith) in
       let low = end.1.low in
-      elim (literal_or_not (slice_range text at end.0)) [
+      elim (cases_Bool (is_literal (slice_range text at end.0))) [
         | inl literal ↦ record { step = Lexeme kinds.Number end.0; stands = steps.number end.1 literal; within = (omega arith, end.1.high) }
-        | inr never ↦ record { step = Bad at whys.BadLiteral; stands = steps.bad_literal end.1 never; within = omega arith }
+        | inr none ↦ record { step = Bad at whys.BadLiteral; stands = steps.bad_literal end.1 none; within = omega arith }
       ]
 
   open_text : (on_define : Bool) (inside : EndOfInside text (at + 1)) → slice_index text inside.end ≢ 34 → Found text on_define at opens.Quote

@@ -5,6 +5,7 @@ use Rattle.std.proofs.lemmas.Bool.{cases_order, le-leb, leb-true, false_from_ne_
 use Rattle.std.proofs.lemmas.List.{append-nil}
 use Rattle.c_lex.specs.Bytes.{IsStretch}
 use Rattle.c_lex.specs.Openings.{opening}
+use Rattle.c_lex.specs.Literals.{is_literal}
 use Rattle.c_lex.specs.Words.{IsDirective, is_left_out}
 use Rattle.c_lex.specs.Comments.{IsFirstClose, NeverCloses, IsComment, IsSplitComment}
 use Rattle.c_lex.specs.Texts.{Inside, ends, goes_on, IsStringLiteral, IsBadInside}
@@ -113,8 +114,8 @@ one_step text m at (steps.name u h) (steps.left_out_word v k) = let e = ap (λ e
 one_step text m at (steps.left_out_word u h) (steps.name v k) = let e = ap (λ end. is_left_out (slice_range text at end)) (run_one u v) in cc
 one_step text m at (steps.left_out_word u h) (steps.left_out_word v k) = refl
 one_step text m at (steps.number u h) (steps.number v k) = ap (Lexeme kinds.Number) (run_one u v)
-one_step text m at (steps.number u h) (steps.bad_literal v k) = absurd (k (rw (run_one u v) at h))
-one_step text m at (steps.bad_literal u h) (steps.number v k) = absurd (h (rw (run_one v u) at k))
+one_step text m at (steps.number u h) (steps.bad_literal v k) = let e = ap (λ end. is_literal (slice_range text at end)) (run_one u v) in cc
+one_step text m at (steps.bad_literal u h) (steps.number v k) = let e = ap (λ end. is_literal (slice_range text at end)) (run_one u v) in cc
 one_step text m at (steps.bad_literal u h) (steps.bad_literal v k) = refl
 one_step text m at (steps.quoted u) (steps.quoted v) = ap (λ close. Lexeme kinds.Text (close + 1)) (text_one u v)
 one_step text m at (steps.quoted u) (steps.bad_inside v) = absurd (never_bad u v)

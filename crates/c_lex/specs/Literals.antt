@@ -1,6 +1,8 @@
 -- The numbers of C. (ISO C, "Integer constants", without suffixes.)
-use Rattle.std.specs.Prelude.{◌≤◌, ◌==◌, ◌&&◌, ◌||◌, ℕ, if◌then◌else◌, List, slice_index, drop}
-use Rattle.std.specs.Str.Parse.{IsNumeral, digits_value}
+use Rattle.std.specs.Prelude.{◌==◌, ◌&&◌, ◌||◌, ℕ, Bool, if◌then◌else◌, List, Option, Some, None, slice_index, drop, length, nat_le, nat_lt}
+use Rattle.std.specs.Char.{digit_value}
+use Rattle.std.specs.List.{list_all}
+use Rattle.std.specs.Str.Parse.{digits_value}
 use Rattle.c_lex.specs.declared.limits.TheConstants.{GREATEST_LITERAL}
 
 -- after `0x` or `0X` the digits are hexadecimal
@@ -19,6 +21,14 @@ digits_of word = drop (prefix_length word) word
 abbrev pub literal_value : List ℕ → ℕ
 literal_value word = digits_value (base word) (digits_of word)
 
--- one digit or more of its base and nothing else, with a value that an int has
-abbrev pub IsLiteral : List ℕ → Type 0
-IsLiteral word = IsNumeral (base word) (digits_of word) × (literal_value word ≤ GREATEST_LITERAL)
+-- one digit or more of a base, and nothing else
+abbrev pub are_digits : ℕ → List ℕ → Bool
+are_digits radix digits = nat_lt 0 (length digits) && list_all (λ byte. nat_lt (digit_value byte) radix) digits
+
+-- digits of its base, with a value that an int has
+abbrev pub is_literal : List ℕ → Bool
+is_literal word = are_digits (base word) (digits_of word) && nat_le (literal_value word) GREATEST_LITERAL
+
+-- the number that a word spells, if it is a literal
+abbrev pub literal : List ℕ → Option ℕ
+literal word = if is_literal word then Some (literal_value word) else None

@@ -3,7 +3,7 @@ use Rattle.std.specs.Prelude.{◌≡◌, ◌≢◌, ◌≤◌, ◌<◌, ◌+◌,
 use Rattle.c_lex.specs.Bytes.{IsStretch}
 use Rattle.c_lex.specs.Marks.{mark_length}
 use Rattle.c_lex.specs.Openings.{opening}
-use Rattle.c_lex.specs.Literals.{IsLiteral}
+use Rattle.c_lex.specs.Literals.{is_literal}
 use Rattle.c_lex.specs.Words.{IsDirective, is_left_out}
 use Rattle.c_lex.specs.Comments.{IsComment, IsSplitComment, NeverCloses}
 use Rattle.c_lex.specs.Texts.{IsStringLiteral, IsBadInside, IsOpenText}
@@ -35,9 +35,9 @@ pub data OpeningGivesStep (text : List ℕ) (on_define : Bool) (at : ℕ) : Open
       → OpeningGivesStep text on_define at opens.Word (Lexeme kinds.Name end)
   left_out_word : {end : ℕ} → IsStretch InWord text (at + 1) (length text) end → is_left_out (slice_range text at end) ≡ true
       → OpeningGivesStep text on_define at opens.Word (Bad at LeftOut)
-  number : {end : ℕ} → IsStretch InWord text (at + 1) (length text) end → IsLiteral (slice_range text at end)
+  number : {end : ℕ} → IsStretch InWord text (at + 1) (length text) end → is_literal (slice_range text at end) ≡ true
       → OpeningGivesStep text on_define at opens.Digits (Lexeme kinds.Number end)
-  bad_literal : {end : ℕ} → IsStretch InWord text (at + 1) (length text) end → (IsLiteral (slice_range text at end) → ⊥)
+  bad_literal : {end : ℕ} → IsStretch InWord text (at + 1) (length text) end → is_literal (slice_range text at end) ≡ false
       → OpeningGivesStep text on_define at opens.Digits (Bad at BadLiteral)
   quoted : {close : ℕ} → IsStringLiteral text at close → OpeningGivesStep text on_define at opens.Quote (Lexeme kinds.Text (close + 1))
   bad_inside : {place : ℕ} → IsBadInside text at place → OpeningGivesStep text on_define at opens.Quote (Bad place BadByte)

@@ -2,7 +2,7 @@
 ghost use Rattle.std.specs.Prelude.{◌≡◌, ◌≤◌, SomeIff, length};
 ghost use Rattle.std.specs.Str.Parse.{AllDigits, digits_value};
 ghost use Rattle.c_lex.specs.declared.limits.TheConstants.{GREATEST_LITERAL};
-ghost use Rattle.c_lex.specs.Literals.{IsLiteral, base, literal_value, prefix_length};
+ghost use Rattle.c_lex.specs.Literals.{base, literal, prefix_length};
 
 use crate::limits::GREATEST_LITERAL;
 
@@ -10,7 +10,7 @@ use crate::limits::GREATEST_LITERAL;
 /// decimal digits. `None` where the word is no literal, or above
 /// `GREATEST_LITERAL`. Takes no memory.
 pub fn literal_value(word: &[u8]) -> Option<u32>
-    ensures { SomeIff result (IsLiteral word.now) (literal_value word.now) }
+    ensures { result ≡ literal word.now }
 {
     let prefix = prefix_length(word);
     let digits = &word[prefix..];

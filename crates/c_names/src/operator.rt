@@ -1,7 +1,8 @@
 //! Operators on ints of 32 bits.
 ghost use Rattle.std.specs.Prelude.{◌≡◌};
 ghost use Rattle.c_names.specs.Operators.{applied, unary_applied};
-ghost use Rattle.mpi_call.specs.Operations.{int_of};
+
+use mpi_call::operations::truth;
 
 /// An operator between two operands.
 #[derive(Clone, Copy)]
@@ -33,13 +34,6 @@ pub enum UnaryOperator {
     Plus,
     Not,
     Complement,
-}
-
-/// A truth value as an int of C.
-fn truth(value: bool) -> i32
-    ensures { result ≡ int_of value }
-{
-    if value { 1 } else { 0 }
 }
 
 /// Both operands are known. `None` where a divisor is zero. Takes no memory.

@@ -1,6 +1,6 @@
 //! The values of expressions, places and references.
 ghost use Rattle.std.specs.Prelude.{◌≡◌, ◌≤◌, IfOk, option_copied, option_map};
-ghost use Rattle.mpi_call.specs.Operations.{int_of, is_set};
+ghost use Rattle.mpi_call.specs.Operations.{is_set};
 ghost use Rattle.c_program.specs.Meaning.{passed, test};
 ghost use Rattle.c_program.specs.Values.{cell_of_place, value_with_links, field_place, is_decided, operated, range, value};
 ghost use Rattle.c_program.specs.View.{pure_argument, pure_expr, pure_links, pure_place, pure_reference};
@@ -13,6 +13,7 @@ use c_program::expr::{Field, Reference, TypedArgument, TypedExpr, TypedLink, Typ
 use c_program::range::Range;
 use c_program::state::Passed;
 use mpi_call::call::Fault;
+use mpi_call::operations::truth;
 
 impl<'p> RankState<'p> {
     /// The value of an expression, or its fault. Takes no memory.
@@ -141,12 +142,6 @@ fn is_set(v: i32) -> bool
     ensures { result ≡ is_set v }
 {
     v != 0
-}
-
-fn truth(value: bool) -> i32
-    ensures { result ≡ int_of value }
-{
-    if value { 1 } else { 0 }
 }
 
 fn field_place(field: Field) -> u32

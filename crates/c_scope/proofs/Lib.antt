@@ -6,7 +6,6 @@ pub mod Joined
 pub mod JoinRules
 pub mod OwnFaults
 pub mod HadMemory
-pub mod LiteralLaws
 pub mod Entries
 pub mod Lists
 pub mod Rows

@@ -7,14 +7,14 @@ use crate::lists::Ints;
 use std::alloc::{AllocError, Global};
 
 /// A truth value as an int of C.
-fn truth(value: bool) -> i32
+pub fn truth(value: bool) -> i32
     ensures { result ≡ int_of value }
 {
     if value { 1 } else { 0 }
 }
 
 /// One operation on two ints; sums and products wrap. Takes no memory.
-pub fn combine(op: Op, a: i32, b: i32) -> i32
+fn combine(op: Op, a: i32, b: i32) -> i32
     ensures { result ≡ combined op a b }
 {
     match op {

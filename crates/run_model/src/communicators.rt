@@ -59,7 +59,7 @@ fn are_all(n: u8, members: &[u8]) -> bool
 }
 
 /// The members that the first reply with this number gave.
-pub fn find_made(view: &[(Call, Reply)], comm: Comm) -> Option<&Ranks>
+fn find_made(view: &[(Call, Reply)], comm: Comm) -> Option<&Ranks>
     ensures { option_map (λ members. members.now) result ≡ known_after comm None view.now }
 {
     let mut rest = view;

@@ -232,7 +232,7 @@ pub fn is_from_null(call: &Call) -> bool
     }
 }
 
-pub fn message_fits(call: &Call, source: u8, tag: u32, len: usize) -> bool
+fn message_fits(call: &Call, source: u8, tag: u32, len: usize) -> bool
     ensures { (n : ℕ) (view : View) (rank start : ℕ) (ints : List ℤ) → len ≡ length ints → result ≡ got_fits n rank view (Some call.now) (Message source start tag ints) }
 {
     match call {

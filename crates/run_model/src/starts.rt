@@ -50,7 +50,7 @@ fn is_completed(starts: &[u32], items: &[Item], number: u32) -> bool
 }
 
 /// Whether a call and its reply completed the start with this number.
-pub fn is_taken_by(call: &Call, reply: &Reply, number: u32) -> bool
+fn is_taken_by(call: &Call, reply: &Reply, number: u32) -> bool
     ensures { result ≡ is_member (taken_of ((call.now, reply.now) ∷ [])) number }
 {
     match reply {
