@@ -11,7 +11,7 @@ use Rattle.c_names.specs.declared.format.Filling.TheVariants.{Blanks, Left, Zero
 use Rattle.c_names.specs.declared.format.FormatPiece.{FormatPiece}
 use Rattle.c_names.specs.declared.format.FormatPiece.TheVariants.{Byte, Int}
 use Rattle.c_names.specs.declared.format.FormatStep.{FormatStep}
-use Rattle.c_names.specs.Formats.{IsConversion, IsFormat, IsSpelled, IsWidth, decimal, end, escape, escaped, filling_flag, hexadecimal, int, integer, more, none, one, percent, plain, two}
+use Rattle.c_names.specs.Formats.{IsConversion, IsFormat, IsSpelled, IsWidth, SpelledOrNot, decimal, end, escape, escaped, filling_flag, hexadecimal, int, integer, more, none, one, percent, plain, two}
 use Rattle.c_names.specs.FormatReading.{begins_width, converts, goes_on, pieces_from, step_of, with_piece}
 
 cases : (b : Bool) → (b ≡ true) ⊎ (b ≡ false)
@@ -245,3 +245,12 @@ spells (byte ∷ bytes) before read pieces b e =
 
 pub read_spells : (bytes : List ℕ) (pieces : List FormatPiece) → pieces_from Pieces bytes ≡ Some pieces → IsFormat bytes pieces
 read_spells bytes pieces e = spells bytes Pieces [] pieces refl e
+
+-- ---- bytes spell pieces, or none
+
+by_reading : (bytes : List ℕ) (found : Option (List FormatPiece)) → pieces_from Pieces bytes ≡ found → SpelledOrNot bytes
+by_reading bytes (Some pieces) e = inl (pieces, read_spells bytes pieces e)
+by_reading bytes None e = inr (λ pieces f. let no : None ≡ Some pieces = sym e ∙ format_reads f in cc)
+
+pub spelled_or_not : (bytes : List ℕ) → SpelledOrNot bytes
+spelled_or_not bytes = by_reading bytes (pieces_from Pieces bytes) refl

@@ -1,6 +1,6 @@
 -- The formats of `printf`: a format is pieces, each spelled in one of four ways. (ISO C, "Escape sequences" and "The fprintf
 -- function": of the conversions `%%`, `%d`, `%i` and `%x` are here, with `-` or `0`, and a width from 1 to 99.)
-use Rattle.std.specs.Prelude.{◌≡◌, ◌≢◌, ◌≤◌, ◌+◌, ◌*◌, ◌==◌, ◌||◌, ◌++◌, ℕ, if◌then◌else◌, List, [], ◌∷◌, Option, Some, None}
+use Rattle.std.specs.Prelude.{◌≡◌, ◌≢◌, ◌≤◌, ◌⊎◌, ◌+◌, ◌*◌, ◌==◌, ◌||◌, ◌++◌, ℕ, if◌then◌else◌, List, [], ◌∷◌, Option, Some, None}
 use Rattle.c_names.specs.declared.format.Base.{Base}
 use Rattle.c_names.specs.declared.format.Base.TheVariants.{Decimal, Hexadecimal}
 use Rattle.c_names.specs.declared.format.Filling.{Filling}
@@ -49,7 +49,11 @@ pub data IsFormat : List ℕ → List FormatPiece → Type 0 where
   more : {spelling bytes : List ℕ} {piece : FormatPiece} {pieces : List FormatPiece} → IsSpelled spelling piece → IsFormat bytes pieces
       → IsFormat (spelling ++ bytes) (piece ∷ pieces)
 
--- how many ints it takes
+-- bytes that spell pieces, and bytes that spell none
+abbrev pub SpelledOrNot : List ℕ → Type 0
+SpelledOrNot bytes = ((pieces : List FormatPiece) × IsFormat bytes pieces) ⊎ ((pieces : List FormatPiece) → IsFormat bytes pieces → ⊥)
+
+-- how many ints a piece takes
 abbrev pub ints_taken_by : Option FormatPiece → ℕ
 ints_taken_by (Some (Int filling width base)) = 1
 ints_taken_by _ = 0

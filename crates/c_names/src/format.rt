@@ -1,7 +1,7 @@
 //! Formats of `printf`.
 ghost use Rattle.std.specs.Prelude.{◌≡◌, ◌++◌, IfOk, List, MatchOption, OnOk, Some, ℕ, option_map, option_to_list};
 ghost use Rattle.c_names.specs.FormatReading.{begins_width, converts, end, on, format_pieces, step_of};
-ghost use Rattle.c_names.specs.Formats.{IsFormat, escaped, ints_taken, ints_taken_by};
+ghost use Rattle.c_names.specs.Formats.{IsFormat, SpelledOrNot, escaped, ints_taken, ints_taken_by};
 ghost use Rattle.c_names.specs.declared.format.FormatPiece.{FormatPiece};
 
 use std::alloc::{AllocError, Global};
@@ -205,8 +205,9 @@ pub fn pieces(alloc: Global, format: &[u8]) -> Result<Option<Vec<FormatPiece>>, 
     }
 }
 
-/// The pieces that are read off a format are those that its bytes spell, so that there is one list of them.
+/// The pieces that are read off a format are those that its bytes spell, so that there is one list of them, or none.
 pub fn one_spelling()
     ensures read { (bytes : List ℕ) (pieces : List FormatPiece) → IsFormat bytes pieces → format_pieces bytes ≡ Some pieces }
     ensures spelled { (bytes : List ℕ) (pieces : List FormatPiece) → format_pieces bytes ≡ Some pieces → IsFormat bytes pieces }
+    ensures either { (bytes : List ℕ) → SpelledOrNot bytes }
 {}

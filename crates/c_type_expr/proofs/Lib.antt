@@ -3,3 +3,4 @@ pub mod WalkRules
 pub mod ArgumentRules
 pub mod Rows
 pub mod CallRules
+pub mod SpelledFormats

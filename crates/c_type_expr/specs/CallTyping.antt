@@ -1,10 +1,11 @@
 -- Typing of calls, by what the name of a call means, and of right sides: the typed form, or the faults. (ISO C, "Function calls".)
+use mathlib.Core.Logic.{inl, inr}
 use Rattle.std.specs.Prelude.{◌==◌, ℕ, List, [], ◌∷◌, length, if◌then◌else◌, Option, Some, None, slice_get}
 use Rattle.c_lex.specs.declared.fault.Why.TheVariants.{WrongType, WrongCount, BadFormat, LeftOut}
 use Rattle.c_grammar.specs.declared.terminal.Span.{Span}
 use Rattle.c_grammar.specs.Tree as t
-use Rattle.c_names.specs.FormatReading.{format_pieces}
-use Rattle.c_names.specs.Formats.{ints_taken}
+use Rattle.c_names.proofs.Spelling.{spelled_or_not}
+use Rattle.c_names.specs.Formats.{SpelledOrNot, ints_taken}
 use Rattle.c_names.specs.declared.format.FormatPiece.{FormatPiece}
 use Rattle.c_names.specs.declared.kind.VariableKind.TheVariants.{Int}
 use Rattle.c_names.specs.declared.predefined.Predefined.TheVariants as p
@@ -29,9 +30,18 @@ abbrev pub read_format : Span → ℕ → Option (List FormatPiece) → Typing (
 read_format at count None = refused at BadFormat
 read_format at count (Some format) = if ints_taken format == count then typed format else refused at BadFormat
 
+-- the pieces that bytes spell, if they spell some
+abbrev pub if_spelled : (bytes : List ℕ) → SpelledOrNot bytes → Option (List FormatPiece)
+if_spelled bytes (inl spelled) = Some spelled.0
+if_spelled bytes (inr none) = None
+
+-- the same, by the law that they spell pieces or none
+abbrev pub spelled_pieces : List ℕ → Option (List FormatPiece)
+spelled_pieces bytes = if_spelled bytes (spelled_or_not bytes)
+
 -- a text that is a format of so many ints
 abbrev pub format_typing : Env → Span → ℕ → Typing (List FormatPiece)
-format_typing env at count = read_format at count (format_pieces (without_quotes (token_bytes env.text at)))
+format_typing env at count = read_format at count (spelled_pieces (without_quotes (token_bytes env.text at)))
 
 -- ints
 abbrev pub numbers_typing : Env → List t.Argument → Typing (List TypedExpr)

@@ -1,7 +1,6 @@
 //! Typing of calls that stand alone, and of right sides, in one walk.
 ghost use Rattle.std.specs.Prelude.{◌≡◌, ◌∷◌, IfOk, map, slice_get};
 ghost use Rattle.c_grammar.specs.StmtView.{argument_view, call_view, comma_list_view, right_view};
-ghost use Rattle.c_names.specs.FormatReading.{format_pieces};
 ghost use Rattle.c_scope.specs.Signatures.{is_int_keyword, listed};
 ghost use Rattle.c_grammar.specs.declared.terminal.Span.{Span};
 ghost use Rattle.c_program.specs.Tree as pure;
@@ -12,7 +11,7 @@ ghost use Rattle.c_scope.specs.Typing.{behind, refused};
 ghost use Rattle.c_scope.specs.Walks.{Gives, Walked, mapped};
 ghost use Rattle.c_type_expr.specs.inside.FormatTests.{takes_ints};
 ghost use Rattle.c_type_expr.specs.Calls.{arguments_of, gives_int, right_first_token, without_quotes};
-ghost use Rattle.c_type_expr.specs.CallTyping.{call_typing, called_typing, flush_typing, format_typing, gives_typing, numbers_typing, print_typing, result_typing, right_typing, stream_meant, stream_typing};
+ghost use Rattle.c_type_expr.specs.CallTyping.{call_typing, called_typing, flush_typing, format_typing, gives_typing, numbers_typing, print_typing, result_typing, right_typing, spelled_pieces, stream_meant, stream_typing};
 ghost use Rattle.c_type_expr.specs.MpiTyping.{mpi_typing};
 
 use crate::argument::{function_of, misfit_of, name_given, value_of};
@@ -77,8 +76,9 @@ fn without_quotes(quoted: &[u8]) -> &[u8]
 }
 
 /// Whether a format is one of so many ints.
+#[tactic(auto, using(crate::proofs::SpelledFormats::pieces_are_spelled))]
 fn takes_ints(format: &[u8], count: usize) -> bool
-    ensures { result ≡ takes_ints count (format_pieces format.now) }
+    ensures { result ≡ takes_ints count (spelled_pieces format.now) }
 {
     match count_ints(format) {
         Some(ints) => ints == count,
