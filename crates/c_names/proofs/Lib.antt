@@ -1,3 +1,1 @@
-pub mod FormatLaws
 pub mod Names
-pub mod Spelling

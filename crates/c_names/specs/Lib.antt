@@ -1,5 +1,3 @@
 pub mod Operators
-pub mod Formats
-pub mod FormatReading
 pub mod Functions
 pub mod Predefined

@@ -1,7 +1,6 @@
-//! The names that a program need not declare, the kinds of variables, the operators on ints, and the formats of `printf`.
+//! The names that a program need not declare, the kinds of variables, and the operators on ints.
 #![tactic(auto)]
 
-pub mod format;
 pub mod function;
 pub mod kind;
 pub mod operator;

@@ -29,7 +29,7 @@ pub enum Predefined {
 }
 
 /// Each name and what it means: the rows of the definition, in its order.
-pub const NAMES: [(&str, Predefined); 61] = [
+const NAMES: [(&str, Predefined); 61] = [
     ("MPI_ANY_TAG", Predefined::Number(-1)),
     ("MPI_PROC_NULL", Predefined::Number(-1)),
     ("MPI_ANY_SOURCE", Predefined::Number(-2)),

@@ -1,3 +1,5 @@
+pub mod FormatLaws
 pub mod Sharing
+pub mod Spelling
 pub mod StmtViewed
 pub mod Viewed

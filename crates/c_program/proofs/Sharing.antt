@@ -4,11 +4,11 @@ use denote.Param.Send.{IsSync, sendable}
 use Rattle.std.proofs.Crossing.{crosses}
 use Rattle.c_program.proofs.expr.TypedExpr.TheLaws.TheKnot as expr_knot
 use Rattle.c_program.proofs.expr.Field.TheSendSync as status_field
+use Rattle.c_program.proofs.format.FormatPiece.TheSendSync as piece
 use Rattle.c_program.proofs.statement.TypedPart.TheLaws.TheKnot as part_knot
 use Rattle.c_names.proofs.operator.UnaryOperator.TheSendSync as sign
 use Rattle.c_names.proofs.operator.Operator.TheSendSync as operator
 use Rattle.c_names.proofs.kind.VariableKind.TheSendSync as kind
-use Rattle.c_names.proofs.format.FormatPiece.TheSendSync as piece
 use Rattle.c_program.proofs.program.TypedParameter.TheSendSync as parameter
 use Rattle.c_program.specs.contracts.expr.FunctionCall as FunctionCall
 use Rattle.c_program.specs.contracts.expr.TypedExpr as TypedExpr

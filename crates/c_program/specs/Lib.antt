@@ -1,4 +1,6 @@
 pub mod Cells
+pub mod Formats
+pub mod FormatReading
 pub mod Tree
 pub mod View
 pub mod State

@@ -3,12 +3,12 @@ use Rattle.std.specs.Prelude.{◌+◌, ◌-◌, ◌++◌, ◌==◌, ℕ, suc, �
 use Rattle.std.specs.Int.{cast_unsigned, w32}
 use Rattle.std.specs.Int.Digits.{digits_of}
 use Rattle.wiz_base.specs.Decimals.{decimal_text}
-use Rattle.c_names.specs.declared.format.Base.{Base}
-use Rattle.c_names.specs.declared.format.Base.TheVariants.{Decimal, Hexadecimal}
-use Rattle.c_names.specs.declared.format.Filling.{Filling}
-use Rattle.c_names.specs.declared.format.Filling.TheVariants.{Blanks, Left, Zeros}
-use Rattle.c_names.specs.declared.format.FormatPiece.{FormatPiece}
-use Rattle.c_names.specs.declared.format.FormatPiece.TheVariants.{Byte, Int}
+use Rattle.c_program.specs.declared.format.Base.{Base}
+use Rattle.c_program.specs.declared.format.Base.TheVariants.{Decimal, Hexadecimal}
+use Rattle.c_program.specs.declared.format.Filling.{Filling}
+use Rattle.c_program.specs.declared.format.Filling.TheVariants.{Blanks, Left, Zeros}
+use Rattle.c_program.specs.declared.format.FormatPiece.{FormatPiece}
+use Rattle.c_program.specs.declared.format.FormatPiece.TheVariants.{Byte, Int}
 
 -- `0` to `9`, `a` to `f`
 abbrev pub digit_text : ℕ → ℕ

@@ -3,11 +3,11 @@
 -- and the relation between the two is `IsTyped` with the rest of the name of the grammar's own relation.
 use Rattle.std.specs.Prelude.{ℕ, ℤ, List, Option}
 use Rattle.mpi_call.specs.declared.call.Op.{Op}
-use Rattle.c_names.specs.declared.format.FormatPiece.{FormatPiece}
 use Rattle.c_names.specs.declared.kind.VariableKind.{VariableKind}
 use Rattle.c_names.specs.declared.operator.Operator.{Operator}
 use Rattle.c_names.specs.declared.operator.UnaryOperator.{UnaryOperator}
 use Rattle.c_program.specs.declared.expr.Field.{Field}
+use Rattle.c_program.specs.declared.format.FormatPiece.{FormatPiece}
 use Rattle.c_program.specs.declared.program.TypedParameter.{TypedParameter}
 
 -- ---- expressions

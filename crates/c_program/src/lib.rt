@@ -6,6 +6,7 @@
 pub mod constants;
 pub mod effect;
 pub mod expr;
+pub mod format;
 pub mod mpi;
 pub mod program;
 pub mod range;

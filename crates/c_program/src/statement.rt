@@ -1,8 +1,8 @@
 //! Typed statements.
 
 use crate::expr::{FunctionCall, TypedExpr, TypedPlace, TypedRight};
+use crate::format::FormatPiece;
 use crate::mpi::MpiCall;
-use c_names::format::FormatPiece;
 use c_names::kind::VariableKind;
 use c_names::operator::Operator;
 use wiz_base::Bytes;

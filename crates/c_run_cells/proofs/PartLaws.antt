@@ -2,9 +2,9 @@
 use Rattle.std.proofs.Common.{◌≡◌, ℕ, ℤ, zero, suc, ◌+◌, ◌-◌, ◌<◌, ◌≤◌, ◌++◌, true, false, List, [], ◌∷◌, Option, Some, None, refl, sym, ◌∙◌, ap, arith, length, map, nat_le, option_map, slice_get}
 use Rattle.std.proofs.lemmas.Option.{slice_get-map}
 use Rattle.mpi_call.specs.declared.call.Fault.TheVariants.{Depth, OutputFull}
-use Rattle.c_names.specs.declared.format.FormatPiece.{FormatPiece}
 use Rattle.c_program.specs.declared.constants.TheConstants.{MOST_PRINTED}
 use Rattle.c_program.specs.declared.effect.Rank.{Rank}
+use Rattle.c_program.specs.declared.format.FormatPiece.{FormatPiece}
 use Rattle.c_program.specs.declared.program.Function as source
 use Rattle.c_program.specs.declared.program.TypedParameter.{TypedParameter}
 use Rattle.c_program.specs.declared.program.ParameterKind.{ParameterKind}

@@ -1,9 +1,9 @@
 //! What `printf` prints.
 ghost use Rattle.std.specs.Prelude.{◌≡◌, ◌++◌, ◌∷◌, ◌<◌, [], IfOk, List, OnOk, replicate};
-ghost use Rattle.c_names.specs.declared.format.FormatPiece.{FormatPiece};
+ghost use Rattle.c_program.specs.declared.format.FormatPiece.{FormatPiece};
 ghost use Rattle.c_program.specs.Prints.{digit_text, padded, hexadecimal_text, int_text, sign_text, size_text, text_of};
 
-use c_names::format::{Base, Filling, FormatPiece};
+use c_program::format::{Base, Filling, FormatPiece};
 use std::alloc::{AllocError, Global};
 use wiz_base::{Bytes, push_decimal};
 

@@ -3,11 +3,10 @@ use Rattle.std.proofs.Common.{◌≡◌, ◌∙◌, ◌==◌, inl, inr, ℕ, Boo
 use Rattle.std.specs.Option.{option_map}
 use Rattle.c_lex.specs.declared.fault.Why.TheVariants.{BadFormat}
 use Rattle.c_grammar.specs.declared.terminal.Span.{Span}
-use Rattle.c_names.specs.FormatReading.{format_pieces}
-use Rattle.c_names.specs.Formats.{SpelledOrNot}
-use Rattle.c_names.proofs.Spelling.{format_reads, read_spells, spelled_or_not}
-use Rattle.c_names.specs.declared.format.FormatPiece.{FormatPiece}
-use Rattle.c_names.specs.Formats.{ints_taken}
+use Rattle.c_program.specs.FormatReading.{format_pieces}
+use Rattle.c_program.specs.Formats.{SpelledOrNot, ints_taken}
+use Rattle.c_program.proofs.Spelling.{format_reads, read_spells, spelled_or_not}
+use Rattle.c_program.specs.declared.format.FormatPiece.{FormatPiece}
 use Rattle.c_scope.specs.Least.{fault, least_fault_from}
 use Rattle.c_scope.specs.Walks.{Gives, if_so}
 use Rattle.c_scope.specs.declared.fault.TypingFault.{TypingFault}

@@ -4,11 +4,11 @@ use Rattle.std.specs.Prelude.{◌==◌, ℕ, List, [], ◌∷◌, length, if◌t
 use Rattle.c_lex.specs.declared.fault.Why.TheVariants.{WrongType, WrongCount, BadFormat, LeftOut}
 use Rattle.c_grammar.specs.declared.terminal.Span.{Span}
 use Rattle.c_grammar.specs.Tree as t
-use Rattle.c_names.proofs.Spelling.{spelled_or_not}
-use Rattle.c_names.specs.Formats.{SpelledOrNot, ints_taken}
-use Rattle.c_names.specs.declared.format.FormatPiece.{FormatPiece}
 use Rattle.c_names.specs.declared.kind.VariableKind.TheVariants.{Int}
 use Rattle.c_names.specs.declared.predefined.Predefined.TheVariants as p
+use Rattle.c_program.proofs.Spelling.{spelled_or_not}
+use Rattle.c_program.specs.Formats.{SpelledOrNot, ints_taken}
+use Rattle.c_program.specs.declared.format.FormatPiece.{FormatPiece}
 use Rattle.c_program.specs.Tree as pure
 use Rattle.c_program.specs.Tree.{TypedExpr, TypedRight, TypedSimple}
 use Rattle.c_scope.specs.Kinds.{kind_faults}
@@ -25,7 +25,7 @@ use Rattle.c_type_expr.specs.MpiTyping.{mpi_typing}
 
 -- ---- printf and fflush
 
--- a text that is a format for so many ints
+-- what a text spells, if it takes so many ints
 abbrev pub read_format : Span → ℕ → Option (List FormatPiece) → Typing (List FormatPiece)
 read_format at count None = refused at BadFormat
 read_format at count (Some format) = if ints_taken format == count then typed format else refused at BadFormat
@@ -54,12 +54,12 @@ print_typing env name [] = refused name WrongCount
 print_typing env name (t.text at ∷ others) = both pure.print (format_typing env at (length others)) (numbers_typing env others)
 print_typing env name (given ∷ others) = misfit_typing env given
 
--- `stdout`
+-- a name that means `stdout`
 abbrev pub stream_meant : Span → Meaning → Typing (Unit {0})
 stream_meant name (m.Known p.Output) = typed tt
 stream_meant name meant = unfit name name meant
 
--- `stdout`
+-- an argument that is such a name
 abbrev pub stream_typing : Env → t.Argument → Typing (Unit {0})
 stream_typing env (t.value (t.read (t.whole name))) = stream_meant name (meaning env name)
 stream_typing env given = misfit_typing env given

@@ -1,8 +1,8 @@
 //! Formats, operators and names, worked out by hand.
-use c_names::format::{count_ints, pieces};
 use c_names::function::{ArgumentKind, accepts, arguments};
 use c_names::operator::{Operator, UnaryOperator, apply, apply_unary};
 use c_names::predefined::{Predefined, meaning_of};
+use c_program::format::{count_ints, pieces};
 use std::test::Fail;
 
 #[test]

@@ -1,8 +1,8 @@
 //! Values worked out by hand, and what C's `printf` prints.
 use crate::states::declare;
-use c_names::format::pieces;
 use c_names::kind::VariableKind;
 use c_program::expr::{TypedExpr, TypedPlace};
+use c_program::format::pieces;
 use c_run_cells::print::text_of;
 use c_run_cells::state::RankState;
 use mpi_call::call::Fault;

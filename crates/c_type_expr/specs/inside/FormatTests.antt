@@ -1,7 +1,7 @@
 -- Whether a text is a format.
 use Rattle.std.specs.Prelude.{◌==◌, ℕ, Bool, false, List, Option, Some, None}
-use Rattle.c_names.specs.Formats.{ints_taken}
-use Rattle.c_names.specs.declared.format.FormatPiece.{FormatPiece}
+use Rattle.c_program.specs.Formats.{ints_taken}
+use Rattle.c_program.specs.declared.format.FormatPiece.{FormatPiece}
 
 -- whether a format takes so many ints; what is no format takes none
 abbrev pub takes_ints : ℕ → Option (List FormatPiece) → Bool

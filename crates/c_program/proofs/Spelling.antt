@@ -3,16 +3,16 @@ use Rattle.std.proofs.Common.{◌≡◌, ◌≢◌, ◌⊎◌, inl, inr, ℕ, �
 use Rattle.std.proofs.lemmas.List.{append-nil}
 use Rattle.std.proofs.lemmas.Bool.Decides.{nat_tests}
 use Rattle.std.proofs.lemmas.Bool.{eqb-false, eqb-true}
-use Rattle.c_names.specs.declared.format.Base.{Base}
-use Rattle.c_names.specs.declared.format.Before.{Before}
-use Rattle.c_names.specs.declared.format.Before.TheVariants.{Pieces, Escape, Percent, Filled, Wide}
-use Rattle.c_names.specs.declared.format.Filling.{Filling}
-use Rattle.c_names.specs.declared.format.Filling.TheVariants.{Blanks, Left, Zeros}
-use Rattle.c_names.specs.declared.format.FormatPiece.{FormatPiece}
-use Rattle.c_names.specs.declared.format.FormatPiece.TheVariants.{Byte, Int}
-use Rattle.c_names.specs.declared.format.FormatStep.{FormatStep}
-use Rattle.c_names.specs.Formats.{IsConversion, IsFormat, IsSpelled, IsWidth, SpelledOrNot, decimal, end, escape, escaped, filling_flag, hexadecimal, int, integer, more, none, one, percent, plain, two}
-use Rattle.c_names.specs.FormatReading.{begins_width, converts, goes_on, pieces_from, step_of, with_piece}
+use Rattle.c_program.specs.declared.format.Base.{Base}
+use Rattle.c_program.specs.declared.format.Before.{Before}
+use Rattle.c_program.specs.declared.format.Before.TheVariants.{Pieces, Escape, Percent, Filled, Wide}
+use Rattle.c_program.specs.declared.format.Filling.{Filling}
+use Rattle.c_program.specs.declared.format.Filling.TheVariants.{Blanks, Left, Zeros}
+use Rattle.c_program.specs.declared.format.FormatPiece.{FormatPiece}
+use Rattle.c_program.specs.declared.format.FormatPiece.TheVariants.{Byte, Int}
+use Rattle.c_program.specs.declared.format.FormatStep.{FormatStep}
+use Rattle.c_program.specs.Formats.{IsConversion, IsFormat, IsSpelled, IsWidth, SpelledOrNot, decimal, end, escape, escaped, filling_flag, hexadecimal, int, integer, more, none, one, percent, plain, two}
+use Rattle.c_program.specs.FormatReading.{begins_width, converts, goes_on, pieces_from, step_of, with_piece}
 
 cases : (b : Bool) → (b ≡ true) ⊎ (b ≡ false)
 cases true = inl refl

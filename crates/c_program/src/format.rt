@@ -1,8 +1,8 @@
 //! Formats of `printf`.
 ghost use Rattle.std.specs.Prelude.{◌≡◌, ◌++◌, IfOk, List, MatchOption, OnOk, Some, ℕ, option_map, option_to_list};
-ghost use Rattle.c_names.specs.FormatReading.{begins_width, converts, end, on, format_pieces, step_of};
-ghost use Rattle.c_names.specs.Formats.{IsFormat, SpelledOrNot, escaped, ints_taken, ints_taken_by};
-ghost use Rattle.c_names.specs.declared.format.FormatPiece.{FormatPiece};
+ghost use Rattle.c_program.specs.FormatReading.{begins_width, converts, end, on, format_pieces, step_of};
+ghost use Rattle.c_program.specs.Formats.{IsFormat, SpelledOrNot, escaped, ints_taken, ints_taken_by};
+ghost use Rattle.c_program.specs.declared.format.FormatPiece.{FormatPiece};
 
 use std::alloc::{AllocError, Global};
 

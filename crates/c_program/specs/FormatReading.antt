@@ -1,14 +1,14 @@
 -- The pieces of a format, byte by byte: `format_pieces` finds those that its bytes spell.
 use Rattle.std.specs.Prelude.{◌+◌, ◌-◌, ◌*◌, ◌==◌, ◌&&◌, ◌||◌, ℕ, nat_le, nat_lt, if◌then◌else◌, List, [], ◌∷◌, Option, Some, None, option_map}
-use Rattle.c_names.specs.Formats.{escaped}
-use Rattle.c_names.specs.declared.format.Base.TheVariants.{Decimal, Hexadecimal}
-use Rattle.c_names.specs.declared.format.Before.{Before}
-use Rattle.c_names.specs.declared.format.Before.TheVariants.{Pieces, Escape, Percent, Filled, Wide}
-use Rattle.c_names.specs.declared.format.Filling.{Filling}
-use Rattle.c_names.specs.declared.format.Filling.TheVariants.{Blanks, Left, Zeros}
-use Rattle.c_names.specs.declared.format.FormatPiece.{FormatPiece}
-use Rattle.c_names.specs.declared.format.FormatPiece.TheVariants.{Byte, Int}
-use Rattle.c_names.specs.declared.format.FormatStep.{FormatStep}
+use Rattle.c_program.specs.Formats.{escaped}
+use Rattle.c_program.specs.declared.format.Base.TheVariants.{Decimal, Hexadecimal}
+use Rattle.c_program.specs.declared.format.Before.{Before}
+use Rattle.c_program.specs.declared.format.Before.TheVariants.{Pieces, Escape, Percent, Filled, Wide}
+use Rattle.c_program.specs.declared.format.Filling.{Filling}
+use Rattle.c_program.specs.declared.format.Filling.TheVariants.{Blanks, Left, Zeros}
+use Rattle.c_program.specs.declared.format.FormatPiece.{FormatPiece}
+use Rattle.c_program.specs.declared.format.FormatPiece.TheVariants.{Byte, Int}
+use Rattle.c_program.specs.declared.format.FormatStep.{FormatStep}
 
 -- a byte at which no piece ends
 abbrev pub on : Before → Option FormatStep

@@ -1,5 +1,5 @@
-use Rattle.c_names.proofs.Spelling.{format_reads, read_spells, spelled_or_not}
-use Rattle.c_names.proofs.format.one_spelling.Goals as goal
+use Rattle.c_program.proofs.Spelling.{format_reads, read_spells, spelled_or_not}
+use Rattle.c_program.proofs.format.one_spelling.Goals as goal
 
 pub returns-clause-read : goal.returns-clause-read
 returns-clause-read c = λ bytes pieces f. format_reads f

@@ -1,12 +1,12 @@
 -- What one byte of a format adds.
 use Rattle.std.proofs.Common.{◌≡◌, ◌≢◌, ◌<◌, ◌+◌, ◌++◌, ◌∷◌, [], ℕ, List, length, Option, Some, None, option_map, refl, ◌∙◌, ap, arith, append_assoc, option_to_list}
 use Rattle.std.proofs.lemmas.List.{append-nil}
-use Rattle.c_names.specs.declared.format.Before.{Before}
-use Rattle.c_names.specs.declared.format.Before.TheVariants.{Pieces, Escape, Percent, Filled, Wide}
-use Rattle.c_names.specs.declared.format.FormatPiece.{FormatPiece}
-use Rattle.c_names.specs.declared.format.FormatPiece.TheVariants.{Byte, Int}
-use Rattle.c_names.specs.Formats.{ints_taken, ints_taken_by}
-use Rattle.c_names.specs.FormatReading.{pieces_from, format_pieces, with_piece}
+use Rattle.c_program.specs.declared.format.Before.{Before}
+use Rattle.c_program.specs.declared.format.Before.TheVariants.{Pieces, Escape, Percent, Filled, Wide}
+use Rattle.c_program.specs.declared.format.FormatPiece.{FormatPiece}
+use Rattle.c_program.specs.declared.format.FormatPiece.TheVariants.{Byte, Int}
+use Rattle.c_program.specs.Formats.{ints_taken, ints_taken_by}
+use Rattle.c_program.specs.FormatReading.{pieces_from, format_pieces, with_piece}
 
 pub counted : (count : ℕ) (piece : Option FormatPiece) (behind : Option (List FormatPiece))
     → option_map (λ n. count + n) (option_map ints_taken (option_map (with_piece piece) behind))

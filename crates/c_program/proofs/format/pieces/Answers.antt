@@ -1,7 +1,7 @@
 use Rattle.std.proofs.Common.{sym, ◌∙◌}
-use Rattle.c_names.proofs.FormatLaws.{cut_off, finished}
-use Rattle.c_names.proofs.Spelling.{format_reads, read_spells}
-use Rattle.c_names.proofs.format.pieces.Goals as goal
+use Rattle.c_program.proofs.FormatLaws.{cut_off, finished}
+use Rattle.c_program.proofs.Spelling.{format_reads, read_spells}
+use Rattle.c_program.proofs.format.pieces.Goals as goal
 
 pub returns-in-Pieces-clause-spelled : goal.returns-in-Pieces-clause-spelled
 returns-in-Pieces-clause-spelled c =

@@ -1,12 +1,12 @@
 -- The formats of `printf`: a format is pieces, each spelled in one of four ways. (ISO C, "Escape sequences" and "The fprintf
 -- function": of the conversions `%%`, `%d`, `%i` and `%x` are here, with `-` or `0`, and a width from 1 to 99.)
 use Rattle.std.specs.Prelude.{◌≡◌, ◌≢◌, ◌≤◌, ◌⊎◌, ◌+◌, ◌*◌, ◌==◌, ◌||◌, ◌++◌, ℕ, if◌then◌else◌, List, [], ◌∷◌, Option, Some, None}
-use Rattle.c_names.specs.declared.format.Base.{Base}
-use Rattle.c_names.specs.declared.format.Base.TheVariants.{Decimal, Hexadecimal}
-use Rattle.c_names.specs.declared.format.Filling.{Filling}
-use Rattle.c_names.specs.declared.format.Filling.TheVariants.{Blanks, Left, Zeros}
-use Rattle.c_names.specs.declared.format.FormatPiece.{FormatPiece}
-use Rattle.c_names.specs.declared.format.FormatPiece.TheVariants.{Byte, Int}
+use Rattle.c_program.specs.declared.format.Base.{Base}
+use Rattle.c_program.specs.declared.format.Base.TheVariants.{Decimal, Hexadecimal}
+use Rattle.c_program.specs.declared.format.Filling.{Filling}
+use Rattle.c_program.specs.declared.format.Filling.TheVariants.{Blanks, Left, Zeros}
+use Rattle.c_program.specs.declared.format.FormatPiece.{FormatPiece}
+use Rattle.c_program.specs.declared.format.FormatPiece.TheVariants.{Byte, Int}
 
 -- the byte that an escape means: `\n`, `\t`, `\r`, `\\`, `\"` and `\'`
 abbrev pub escaped : ℕ → Option ℕ

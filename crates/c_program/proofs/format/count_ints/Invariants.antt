@@ -1,7 +1,7 @@
 use Rattle.std.proofs.Common.{◌≡◌, ◌+◌, ◌≤◌, length, option_map}
-use Rattle.c_names.specs.Formats.{ints_taken}
-use Rattle.c_names.specs.FormatReading.{pieces_from, format_pieces}
-use Rattle.c_names.proofs.format.count_ints.Given as goal
+use Rattle.c_program.specs.Formats.{ints_taken}
+use Rattle.c_program.specs.FormatReading.{pieces_from, format_pieces}
+use Rattle.c_program.proofs.format.count_ints.Given as goal
 
 abbrev pub invariant-loop-left : goal.invariant-loop-left
 invariant-loop-left l = record {
