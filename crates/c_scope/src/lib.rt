@@ -9,4 +9,5 @@ mod innermost;
 pub mod joins;
 pub mod kind;
 pub mod meaning;
+pub mod refusals;
 pub mod scope;

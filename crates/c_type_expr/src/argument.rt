@@ -13,7 +13,7 @@ ghost use Rattle.c_type_expr.specs.Calls.{signature_takes};
 ghost use Rattle.c_type_expr.specs.ExprTyping.{address_typing, alone_typing, argument_typing, arguments_typing, array_typing, buf_typing, cells_typing, counted_typing, function_typing, misfit_typing, null_or_array, reference_typing, value_typing};
 ghost use Rattle.c_type_expr.specs.Shapes.{array_sum, name_alone, name_given, sum_base};
 
-use crate::expression::{expr_of, int_of, refused, unfit, wanted_of};
+use crate::expression::{expr_of, int_of, wanted_of};
 use c_grammar::statement::{Argument, CommaList, Head, Parameter, Parameters};
 use c_grammar::terminal::{Span, Symbol};
 use c_grammar::tree::{Expr, Link, Place};
@@ -26,6 +26,7 @@ use c_scope::fault::TypingFault;
 use c_scope::joins::{all, both, keep};
 use c_scope::kind::{first_token, is_same_kind};
 use c_scope::meaning::{Entity, ExprKind, Meaning};
+use c_scope::refusals::{refused, unfit};
 use c_scope::scope::Scope;
 use std::alloc::{AllocError, Global};
 

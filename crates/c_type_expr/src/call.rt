@@ -15,7 +15,7 @@ ghost use Rattle.c_type_expr.specs.CallTyping.{call_typing, called_typing, flush
 ghost use Rattle.c_type_expr.specs.MpiTyping.{mpi_typing};
 
 use crate::argument::{function_of, misfit_of, name_given, value_of};
-use crate::expression::{of_kind, refused, unfit, wanted_of};
+use crate::expression::wanted_of;
 use crate::mpi::mpi_of;
 use c_grammar::statement::{Argument, CommaList, Right, WrittenCall};
 use c_grammar::terminal::{Span, Symbol};
@@ -31,6 +31,7 @@ use c_scope::fault::{TypingFault, note_at};
 use c_scope::joins::{all, both, if_well, keep};
 use c_scope::kind::first_token;
 use c_scope::meaning::{Entity, ExprKind, Meaning};
+use c_scope::refusals::{of_kind, refused, unfit};
 use c_scope::scope::{Scope, token_bytes};
 use std::alloc::{AllocError, Global};
 

@@ -4,10 +4,8 @@ ghost use Rattle.c_grammar.specs.Tree as tree;
 ghost use Rattle.c_grammar.specs.View.{links_from, piece, place_view, view};
 ghost use Rattle.c_program.specs.Tree as pure;
 ghost use Rattle.c_program.specs.View.{pure_expr, pure_link, pure_links, pure_place};
-ghost use Rattle.c_scope.specs.Kinds.{kind_fits, kind_faults};
 ghost use Rattle.c_scope.specs.Least.{least_fault_from};
 ghost use Rattle.c_scope.specs.Scopes.{meaning};
-ghost use Rattle.c_scope.specs.Typing.{refused, unfit};
 ghost use Rattle.c_scope.specs.Walks.{Gives, Walked, are_none, if_so, mapped};
 ghost use Rattle.c_type_expr.specs.Operands.{field_of, is_equality, is_field, operand_faults};
 ghost use Rattle.c_type_expr.specs.ExprTyping.{as_status, expr_typing, field_typing, indexed_typing, int_typing, links_typing, name_typing, place_typing, wanted_typing, whole_typing};
@@ -21,55 +19,14 @@ use c_names::predefined::Predefined;
 use c_program::expr::{Field, TypedExpr, TypedLink, TypedPlace};
 use c_scope::constant::{operator_of, unary_of};
 use c_scope::fault::{TypingFault, note_at};
-use c_scope::joins::{all, both, if_well, in_box, keep};
-use c_scope::kind::{compares, first_token, fits, kind_of, place_first_token, place_kind};
+use c_scope::joins::{all, both, in_box, keep};
+use c_scope::kind::{compares, first_token, kind_of, place_first_token, place_kind};
 use c_scope::meaning::{Entity, ExprKind, Meaning};
+use c_scope::refusals::{of_kind, refused, unfit};
 use c_scope::scope::{Scope, is_same, number_at, token_bytes};
 use std::alloc::{AllocError, Global};
 
 const INT: ExprKind = ExprKind::Of(VariableKind::Int);
-
-/// What was found, where it is of a kind that is wanted.
-pub fn of_kind<T: Drop>(
-    best: &mut Option<TypingFault>,
-    wanted: ExprKind,
-    given: ExprKind,
-    at: Span,
-    found: Option<T>,
-) -> Option<T>
-    ensures best { best.new ≡ least_fault_from best.old (kind_faults wanted given at) }
-    ensures form { result ≡ if_so (kind_fits wanted given) found }
-{
-    let well = fits(wanted, given);
-    if !well {
-        note_at(best, at, Why::WrongType);
-    }
-    if_well(well, found)
-}
-
-/// A fault, and no form.
-pub fn refused<T: Drop>(best: &mut Option<TypingFault>, at: Span, why: Why) -> Option<T>
-    ensures { Gives best.old best.new result (refused at why) }
-{
-    note_at(best, at, why);
-    None
-}
-
-/// A name that is not what is wanted.
-pub fn unfit<T: Drop>(
-    best: &mut Option<TypingFault>,
-    at: Span,
-    name: Span,
-    meant: Meaning,
-) -> Option<T>
-    ensures { Gives best.old best.new result (unfit at name meant) }
-{
-    match meant {
-        Meaning::LeftOut => refused(best, name, Why::LeftOut),
-        Meaning::Unknown => refused(best, name, Why::Unknown),
-        _ => refused(best, at, Why::WrongType),
-    }
-}
 
 /// A name alone.
 #[tactic(auto, using(c_program::proofs::Viewed::views))]

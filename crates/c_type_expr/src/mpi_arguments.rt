@@ -13,7 +13,6 @@ ghost use Rattle.c_type_expr.specs.ExprTyping.{misfit_typing, reference_typing};
 ghost use Rattle.c_type_expr.specs.MpiTyping.{argc_meant, argc_typing, argv_meant, argv_typing, buffer_typing, comm_typing, datatype_meant, datatype_typing, incoming_typing, ints_typing, is_null, is_null_meant, newcomm_typing, null_meant, null_typing, number_typing, op_meant, op_typing, outgoing_typing, reduction_typing, requests_typing, several_typing, status_typing, statuses_typing};
 
 use crate::argument::{buf_of, misfit_of, name_given, reference_of, value_of};
-use crate::expression::{refused, unfit};
 use crate::forms::{five, made, three};
 use c_grammar::statement::Argument;
 use c_grammar::terminal::Span;
@@ -25,6 +24,7 @@ use c_program::expr::{Reference, TypedExpr};
 use c_program::mpi::{Buffer, Incoming, MpiCall, Outgoing, Reduction, SomeRequests};
 use c_scope::fault::TypingFault;
 use c_scope::meaning::{Entity, ExprKind, Meaning};
+use c_scope::refusals::{refused, unfit};
 use c_scope::scope::Scope;
 use mpi_call::call::Op;
 use std::alloc::{AllocError, Global};
