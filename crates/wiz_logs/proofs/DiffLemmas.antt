@@ -44,7 +44,6 @@ use Rattle.wiz_task.specs.Tasks.{IsDoneFor}
 use Rattle.wiz_logs.specs.Logs.{join_inputs, diff_requirements, logs_task}
 use Rattle.wiz_tool.specs.Statuses.{of_stands}
 use Rattle.wiz_logs.specs.Comparisons.{Compares, compared_outcome, diff_outcome, diff_outcome_by, of_comparison}
-use Rattle.wiz_task.specs.Replayings.{IsReplayOf}
 use Rattle.wiz_logs.specs.inside.Comparing.{AreReplayedRuns, AreTwoRunsOf}
 use Rattle.wiz_task.proofs.LogLemmas.{IsReplayable-text}
 use Rattle.wiz_logs.proofs.RegroupLemmas.{done_stands, lawful}
@@ -63,7 +62,7 @@ pub first_ranks : (runs : TwoRuns) (first second : Replayed) → AreReplayedRuns
 first_ranks runs first second are =
     replay_ranks (next_of (pure_program runs.program)) runs.one None first.events.events are.replayable (are.first_replay.shows (pure_program runs.program) are.is_program).whole.replays
 
-other_program : (one other : Log) (program : Program) → CanCompare one other → IsProgramOf one.program program → IsProgramOf other.program program
+pub other_program : (one other : Log) (program : Program) → CanCompare one other → IsProgramOf one.program program → IsProgramOf other.program program
 other_program one other program can is = rw can.program is
 
 -- logs that are compared can be replayed
@@ -72,19 +71,6 @@ runs_replayable [] runs is = absurd is.are_logs
 runs_replayable (bytes ∷ []) runs is = absurd is.are_logs
 runs_replayable (bytes ∷ others ∷ more) runs is =
     (IsReplayable-text bytes runs.one is.are_logs.0, IsReplayable-text others runs.other is.are_logs.1)
-
-pub other_is_program : (texts : List (List ℕ)) (runs : TwoRuns) → AreTwoRunsOf texts runs → IsProgramOf runs.other.program (pure_program runs.program)
-other_is_program texts runs is = other_program runs.one runs.other (pure_program runs.program) is.can_compare is.is_program
-
-pub replayed_runs : (texts : List (List ℕ)) (runs : TwoRuns) (first second : Replayed) → AreTwoRunsOf texts runs
-    → IsReplayOf runs.one.program runs.one None first → IsReplayOf runs.other.program runs.other None second → AreReplayedRuns runs first second
-replayed_runs texts runs first second is of too = record {
-  can_compare = is.can_compare;
-  is_program = is.is_program;
-  replayable = (runs_replayable texts runs is).0;
-  first_replay = of;
-  second_replay = too;
-}
 
 -- ---- what is compared
 

@@ -90,10 +90,10 @@ pub refined_is_told : (files : List NamedFile) (text words : List ℕ) (replays 
     → done_outcome files text replays ≡ done_outcome files words others
 refined_is_told files text words replays others same too = rw (same, too) refl
 
-pub joined_is_told : (file bytes text : List ℕ) (made whole : Log) (replays others : List Replayed) → bytes ≡ log_bytes made → text ≡ joined_text made.group
-    → made ≡ whole → replays ≡ others
+pub joined_is_told : (file bytes text : List ℕ) (whole : Log) (replays others : List Replayed) → bytes ≡ log_bytes whole → text ≡ joined_text whole.group
+    → replays ≡ others
     → done_outcome ((record { name = file; bytes = bytes }) ∷ []) text replays ≡ done_outcome (log_file file whole) (joined_text whole.group) others
-joined_is_told file bytes text made whole replays others are says is same = rw (are, says, is, same) refl
+joined_is_told file bytes text whole replays others are says same = rw (are, says, same) refl
 
 -- told of a list of replays, it is told of an equal one
 pub traces_of : (status : Status) (files : List NamedFile) (text : List ℕ) (replays made : List Replayed) (before after : Environment) (result : Result Report AllocError)

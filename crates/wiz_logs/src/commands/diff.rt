@@ -1,5 +1,9 @@
 //! `diff LOG OTHER`: two logs of one group are replayed, each alone, and it is told where what their ranks saw parts.
 ghost use Rattle.std.specs.Prelude.{◌≡◌, [], IfOk};
+ghost use Rattle.c_program.specs.View.{pure_program};
+ghost use Rattle.c_types.specs.Checks.{IsProgramOf};
+ghost use Rattle.srr_replay.specs.Rounds.{IsReplayable};
+ghost use Rattle.view_diff.specs.Comparing.{CanCompare};
 ghost use Rattle.wiz_logs.specs.Comparisons.{Compares, of_comparison};
 ghost use Rattle.wiz_logs.specs.inside.Comparing.{AreReplayedRuns};
 ghost use Rattle.wiz_task.specs.inside.Ends.{EndsTask};
@@ -36,11 +40,23 @@ pub fn diff<'a, S: Store, K: Sink, R: Runner>(
     ensures { EndsTask (logs_task one.now other.now diff_requirements Compares) (around S.observed K.observed store out) result }
 {
     let runs = read_runs(alloc, one, other, store)?;
-    let first = replay_own(alloc, &runs.program, &runs.one, runner)?;
-    let second = replay_own(alloc, &runs.program, &runs.other, runner)?;
-    let done = compared(alloc, &runs, first, second)?;
+    let done = compare_runs(alloc, &runs, runner)?;
     let report = tell(done, out)?;
     Ok(report)
+}
+
+/// Replays both logs, and tells where their runs part.
+fn compare_runs<R: Runner>(alloc: Global, runs: &TwoRuns, runner: &R) -> Result<Done, AllocError>
+    requires compared { CanCompare runs.now.one runs.now.other }
+    requires program { IsProgramOf runs.now.one.program (pure_program runs.now.program) }
+    requires one { IsReplayable runs.now.one }
+    requires other { IsReplayable runs.now.other }
+    requires runs { R.runs runner.now }
+    ensures { IfOk result (λ done. Compares runs.now.one runs.now.other (outcome_written [] done)) }
+{
+    let first = replay_own(alloc, &runs.program, &runs.one, runner)?;
+    let second = replay_own(alloc, &runs.program, &runs.other, runner)?;
+    compared(alloc, runs, first, second)
 }
 
 /// Where the runs of two replays part, or the traces of the replays where one is not done.

@@ -1,5 +1,6 @@
 //! `join LOG OTHER FILE`: two logs are replayed, each alone, and the log of both groups together is written.
-ghost use Rattle.std.specs.Prelude.{◌≡◌, ◌∷◌, []};
+ghost use Rattle.std.specs.Prelude.{◌≡◌, ◌∷◌, [], IfOk};
+ghost use Rattle.srr_log2.specs.LogBytes.{log_bytes};
 ghost use Rattle.srr_regroup.specs.Regrouping.{both_groups, joined_log};
 ghost use Rattle.wiz_logs.specs.Regroupings.{Joins, done_outcome, join_outcome, log_file};
 ghost use Rattle.wiz_task.specs.inside.Ends.{EndsTask};
@@ -16,6 +17,7 @@ use log_bounds::ints32::replies_fit;
 use replay_model::replayed::Replayed;
 use srr_log2::write_log2::write_log2;
 use std::alloc::{AllocError, Global};
+use wiz_base::Bytes;
 use wiz_io::{Sink, Store};
 use wiz_task::runner::Runner;
 use wiz_tool::failure::Failure;
@@ -85,11 +87,26 @@ fn write_joined<S: Store, K: Sink>(
         IsReportedBy (done_outcome files (joined_text (both_groups pair.now.one pair.now.other)) (first ∷ second ∷ [])) (around S.observed K.observed store out) result }
     ensures reads { (S.observed store.new).reads ≡ (S.observed store.old).reads }
 {
-    let made = srr_regroup::join(alloc, &pair.one, &first, &pair.other, &second)?;
-    let text = joined_text(alloc, &made.group)?;
-    let bytes = write_log2(alloc, &made)?;
+    let (text, bytes) = joined(alloc, pair, &first, &second)?;
     let replays = two_replays(alloc, first, second)?;
     let written = write_file(alloc, file, bytes.as_slice(), store);
     let done = text_of_replays(text, Status::Done, replays);
     finish(alloc, written, done, out)
+}
+
+/// What is told of the log of both groups, and the bytes of its file.
+fn joined(
+    alloc: Global,
+    pair: &Pair,
+    first: &Replayed,
+    second: &Replayed,
+) -> Result<(Bytes, Bytes), AllocError>
+    requires { AreJoinable pair.now.one first.now.events.events pair.now.other second.now.events.events }
+    ensures text { IfOk result (λ both. both.0 ≡ joined_text (both_groups pair.now.one pair.now.other)) }
+    ensures bytes { IfOk result (λ both. both.1 ≡ log_bytes (joined_log pair.now.one first.now.events.events pair.now.other second.now.events.events)) }
+{
+    let made = srr_regroup::join(alloc, &pair.one, first, &pair.other, second)?;
+    let text = joined_text(alloc, &made.group)?;
+    let bytes = write_log2(alloc, &made)?;
+    Ok((text, bytes))
 }

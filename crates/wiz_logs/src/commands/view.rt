@@ -5,6 +5,7 @@ ghost use Rattle.c_types.specs.Checks.{IsProgramOf};
 ghost use Rattle.srr_replay.specs.Rounds.{IsReplayable};
 ghost use Rattle.wiz_task.specs.Replayings.{IsReplayOf};
 ghost use Rattle.wiz_logs.specs.Views.{TellsView, view_with_texts};
+ghost use Rattle.wiz_logs.specs.inside.Replaying.{used_text};
 ghost use Rattle.wiz_task.specs.inside.Ends.{EndsTask};
 ghost use Rattle.wiz_tool.specs.inside.Told.{outcome_written};
 ghost use Rattle.wiz_tool.specs.Environment.{around};
@@ -12,7 +13,7 @@ ghost use Rattle.wiz_words.specs.Texts.{replay_with_texts};
 ghost use Rattle.wiz_logs.specs.Logs.{view_task};
 
 use crate::replaying::make::one_replay;
-use crate::replaying::subject::{read_subject, used_text};
+use crate::replaying::subject::{Subject, read_subject, used_text};
 use crate::viewing::ask::ReplayView;
 use crate::viewing::tell::told_text;
 use c_program::CProgram;
@@ -43,26 +44,35 @@ pub fn view<'a, S: Store, K: Sink, R: Runner>(
     ensures { EndsTask (view_task (replay_with_texts words.now) (view_with_texts asked.now)) (around S.observed K.observed store out) result }
 {
     let subject = read_subject(alloc, words, store)?;
-    let text = used_text(&subject.log, &subject.text);
-    let replayed = replay_text(
-        alloc,
-        &subject.program,
-        text,
-        &subject.log,
-        words.stop,
-        runner,
-    )?;
-    let done = viewed(
-        alloc,
-        &subject.program,
-        text,
-        &subject.log,
-        words.stop,
-        asked,
-        replayed,
-    )?;
+    let done = view_subject(alloc, &subject, words.stop, asked, runner)?;
     let report = tell(done, out)?;
     Ok(report)
+}
+
+/// Replays a log, and tells what is asked of the replay.
+fn view_subject<R: Runner>(
+    alloc: Global,
+    subject: &Subject,
+    stop: Option<(u8, u32)>,
+    asked: &ReplayView<&str>,
+    runner: &R,
+) -> Result<Done, AllocError>
+    requires program { IsProgramOf (used_text subject.now.log subject.now.text) (pure_program subject.now.program) }
+    requires log { IsReplayable subject.now.log }
+    requires runs { R.runs runner.now }
+    ensures { IfOk result (λ done. TellsView (used_text subject.now.log subject.now.text) subject.now.log stop (view_with_texts asked.now) (outcome_written [] done)) }
+{
+    let text = used_text(&subject.log, &subject.text);
+    let replayed = replay_text(alloc, &subject.program, text, &subject.log, stop, runner)?;
+    viewed(
+        alloc,
+        &subject.program,
+        text,
+        &subject.log,
+        stop,
+        asked,
+        replayed,
+    )
 }
 
 /// What is asked of a replay, or its trace where it is not done.

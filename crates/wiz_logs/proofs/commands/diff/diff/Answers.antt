@@ -2,31 +2,25 @@ use Rattle.std.proofs.Common.{[], refl}
 use Rattle.std.proofs.lemmas.Result.{err_from_is_err_and}
 use Rattle.wiz_tool.specs.inside.Told.{outcome_written}
 use Rattle.wiz_tool.specs.Environment.{environment}
-use Rattle.wiz_logs.proofs.DiffLemmas.{diff_done, other_is_program, replayed_runs, runs_replayable}
+use Rattle.wiz_logs.proofs.DiffLemmas.{diff_done, runs_replayable}
 use Rattle.wiz_task.proofs.EndLemmas.{command_failed, command_short, text_short, text_told}
 use Rattle.wiz_logs.proofs.commands.diff.diff.Goals as goal
 use Rattle.wiz_logs.specs.Logs.{diff_requirements, logs_task}
 use Rattle.wiz_logs.specs.Comparisons.{Compares}
 
-pub replay_own-requires-clause-program : goal.replay_own-requires-clause-program
-replay_own-requires-clause-program g c = c.in_ok-runs.ensures.runs.2.is_program
+pub compare_runs-requires-clause-compared : goal.compare_runs-requires-clause-compared
+compare_runs-requires-clause-compared g c = c.in_ok-runs.ensures.runs.2.can_compare
 
-pub replay_own-requires-clause-log : goal.replay_own-requires-clause-log
-replay_own-requires-clause-log g c =
+pub compare_runs-requires-clause-program : goal.compare_runs-requires-clause-program
+compare_runs-requires-clause-program g c = c.in_ok-runs.ensures.runs.2.is_program
+
+pub compare_runs-requires-clause-one : goal.compare_runs-requires-clause-one
+compare_runs-requires-clause-one g c =
     let held = c.in_ok-runs.ensures.runs in (runs_replayable held.0 c.in_ok-runs.runs held.2).0
 
-pub replay_own-requires-2-clause-program : goal.replay_own-requires-2-clause-program
-replay_own-requires-2-clause-program g c =
-    let held = c.in_ok-runs.ensures.runs in other_is_program held.0 c.in_ok-runs.runs held.2
-
-pub replay_own-requires-2-clause-log : goal.replay_own-requires-2-clause-log
-replay_own-requires-2-clause-log g c =
+pub compare_runs-requires-clause-other : goal.compare_runs-requires-clause-other
+compare_runs-requires-clause-other g c =
     let held = c.in_ok-runs.ensures.runs in (runs_replayable held.0 c.in_ok-runs.runs held.2).1
-
-pub compared-requires : goal.compared-requires
-compared-requires g c =
-    let held = c.in_ok-runs.ensures.runs in
-    replayed_runs held.0 c.in_ok-runs.runs c.in_ok-first.first c.in_ok-second.second held.2 c.in_ok-first.ensures c.in_ok-second.ensures
 
 pub returns-in_err-runs : goal.returns-in_err-runs
 returns-in_err-runs g c =
@@ -34,18 +28,6 @@ returns-in_err-runs g c =
     rw (p.1, p.2)
     (command_failed (logs_task c.args.one.now c.args.other.now diff_requirements Compares) (environment (g.S.Store.observed c.args.store.now) (g.K.Sink.observed c.args.out.now)) (environment (g.S.Store.observed c.read_runs.new.store) (g.K.Sink.observed c.args.out.now))
     c.in_err-runs.field-0.0 (record { files = c.in_err-runs.ensures.files; out = refl }) c.in_err-runs.ensures.refused)
-
-pub returns-in_err-first : goal.returns-in_err-first
-returns-in_err-first g c =
-    let p = err_from_is_err_and c.from_residual-in_err-first.result c.from_residual-in_err-first.ensures.1 in
-    rw p.1
-    (command_short (logs_task c.args.one.now c.args.other.now diff_requirements Compares) (environment (g.S.Store.observed c.args.store.now) (g.K.Sink.observed c.args.out.now)) (environment (g.S.Store.observed c.read_runs.new.store) (g.K.Sink.observed c.args.out.now)) _ p.2 (record { files = c.in_ok-runs.ensures.files; out = refl }))
-
-pub returns-in_err-second : goal.returns-in_err-second
-returns-in_err-second g c =
-    let p = err_from_is_err_and c.from_residual-in_err-second.result c.from_residual-in_err-second.ensures.1 in
-    rw p.1
-    (command_short (logs_task c.args.one.now c.args.other.now diff_requirements Compares) (environment (g.S.Store.observed c.args.store.now) (g.K.Sink.observed c.args.out.now)) (environment (g.S.Store.observed c.read_runs.new.store) (g.K.Sink.observed c.args.out.now)) _ p.2 (record { files = c.in_ok-runs.ensures.files; out = refl }))
 
 pub returns-in_err-done : goal.returns-in_err-done
 returns-in_err-done g c =

@@ -1,4 +1,4 @@
-use Rattle.std.proofs.Common.{◌∙◌, [], ◌∷◌, ap, refl, List}
+use Rattle.std.proofs.Common.{◌≡◌, ◌∙◌, [], ◌∷◌, refl, List}
 use Rattle.replay_model.specs.declared.replayed.Replayed.{Replayed}
 use Rattle.srr_entry.specs.declared.log.Log.{Log}
 use Rattle.srr_regroup.specs.Regrouping.{both_groups, joined_log}
@@ -18,9 +18,10 @@ returns-clause-told g c =
     let whole : Log = joined_log one c.args.first.events.events other c.args.second.events.events in
     let replays : List Replayed = c.args.first ∷ c.args.second ∷ [] in
     let files : List NamedFile = (record { name = c.args.file.now; bytes = c.as_slice.result.now }) ∷ [] in
+    let is : outcome_written files c.text_of_replays-done.result ≡ done_outcome (log_file c.args.file.now whole) (joined_text (both_groups one other)) replays =
+    rw c.text_of_replays-done.ensures (joined_is_told c.args.file.now c.as_slice.result.now c.in_ok-text.text whole c.in_ok-replays.replays replays
+    (c.as_slice.ensures ∙ c.in_ok-text.ensures.bytes) c.in_ok-text.ensures.text c.in_ok-replays.ensures) in
     told_same (outcome_written files c.text_of_replays-done.result) (done_outcome (log_file c.args.file.now whole) (joined_text (both_groups one other)) replays)
     (environment (g.S.Store.observed c.args.store.now) (g.K.Sink.observed c.args.out.now)) (environment (g.S.Store.observed c.write_file-written.new.store) (g.K.Sink.observed c.finish.new.out)) c.finish.result
-    (ap (outcome_written files) c.text_of_replays-done.ensures
-    ∙ joined_is_told c.args.file.now c.as_slice.result.now c.in_ok-text.text c.in_ok-made.made whole c.in_ok-replays.replays replays
-    (c.as_slice.ensures ∙ c.in_ok-bytes.ensures) c.in_ok-text.ensures c.in_ok-made.ensures.log c.in_ok-replays.ensures)
+    is
     (c.finish.ensures files (environment (g.S.Store.observed c.args.store.now) (g.K.Sink.observed c.args.out.now)) (g.S.Store.observed c.write_file-written.new.store) refl c.write_file-written.ensures.ok c.write_file-written.ensures.stopped)
