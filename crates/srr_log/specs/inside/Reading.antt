@@ -1,5 +1,5 @@
 -- Reading a log part by part: which part may come next, and a fault where none does.
-use Rattle.std.specs.Prelude.{◌≡◌, ◌≢◌, ◌≤◌, ◌<◌, ◌+◌, ◌⊎◌, ℕ, zero, suc, List, [], ◌∷◌, ◌++◌, true, length, replicate, Result, Ok, Err}
+use Rattle.std.specs.Prelude.{◌≡◌, ◌≢◌, ◌≤◌, ◌<◌, ◌⊎◌, ℕ, zero, suc, List, [], ◌∷◌, ◌++◌, true, length, replicate, Result, Ok, Err}
 use Rattle.std.specs.Borrow.{Bor}
 use Rattle.mpi_call.specs.declared.limits.TheConstants.{MOST_RANKS}
 use Rattle.srr_entry.specs.declared.entry.Entry.TheVariants.{Sent}

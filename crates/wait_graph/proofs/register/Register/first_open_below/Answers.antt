@@ -1,4 +1,4 @@
-use Rattle.std.proofs.Common.{◌∙◌, Some, arith, is_some, sym}
+use Rattle.std.proofs.Common.{◌∙◌, arith, sym}
 use Rattle.run_model.specs.Views.{starts_of, view_of}
 use Rattle.wait_graph.proofs.OpenLemmas.{found_here, left_none, left_past, none_here}
 use Rattle.wait_graph.proofs.register.Register.first_open_below.Goals as goal
