@@ -26,9 +26,12 @@ CLAUSES_OF = "wiz"
 
 # The headline for any program, and the parts that a C program adds to it, in the order of the page.
 CORE = ["replay_model.Laws.IsRunWith", "replay_model.Laws.ShowsInEveryOrder"]
+# What the law over all programs asks of a program: three of the laws of the trait `Program`. A program of C keeps them.
+ASKED = ["run_model.Program.EndsExactly", "run_model.Program.PrintsOn", "run_model.Program.EntersInForm"]
 PARTS = [
     ("what MPI allows: the runs of any program", ["run_model.Run.IsRun"]),
     ("the headline for any program: a run with this log, and what is shown of it in every order", CORE),
+    ("the same with what it asks of a program: the laws of one that C's keep", CORE + ASKED),
     ("what a C program does and prints", ["c_program.Program.next_of", "c_program.Program.output_of"]),
     ("which texts are programs, and which program a text is", ["c_types.Checks.IsProgramOf"]),
     ("which texts are logs", ["wiz_logs.Logs.IsLogOf"]),
@@ -213,8 +216,10 @@ def wrapped(text, indent=""):
 def answer_block(house, core, clauses):
     """The answer in a paragraph."""
     headline, everything = clauses["headline"], frozenset().union(*clauses.values())
+    asked = house.closure([house.named(path) for path in CORE + ASKED])
     text = (f"The headline, for any program, rests on **{count(len(core))} definitions, {count(house.lines(core))} lines in"
-            f" {len(files_of(core))} files**. With the C language, the texts of logs and the arguments it rests on"
+            f" {len(files_of(core))} files**, and with the three laws that it asks of a program on {count(len(asked))},"
+            f" {count(house.lines(asked))} lines in {len(files_of(asked))} files. With the C language, the texts of logs and the arguments it rests on"
             f" {count(len(headline))} definitions, {count(house.lines(headline))} lines in {len(files_of(headline))} files; all clauses"
             f" of the top call together on {count(len(everything))}, {count(house.lines(everything))} lines in"
             f" {len(files_of(everything))} files.")
@@ -244,7 +249,8 @@ def gloss_of(old, key, cell):
 
 
 def keys_of(old):
-    return [line.strip().strip("|").split("|")[0].strip() for line in old if line.startswith("| `")]
+    """The keys of a block's rows, each once."""
+    return list(dict.fromkeys(line.strip().strip("|").split("|")[0].strip() for line in old if line.startswith("| `")))
 
 
 def reading_block(house, core, old):
@@ -262,7 +268,7 @@ def reading_block(house, core, old):
 
 
 def names_block(house, core, old):
-    """The names of these definitions, by file, and the types and constants of the code that they speak of."""
+    """The names of these definitions, by file, and how many of the toolchain's library they use."""
     order = keys_of(old)
     by_key = {}
     for one in core:
@@ -271,17 +277,28 @@ def names_block(house, core, old):
     rows = []
     for key in order:
         rows += wrapped(f"- {key}: " + ", ".join(f"`{name}`" for name in sorted(by_key[key])), "  ")
-    declared, words = {}, set()
+    words = {(crate, file, name) for _, crate, file, name in house.outside[core] if not file.startswith("declared.")}
+    return rows + [""] + wrapped(f"They use {len(words)} definitions of the toolchain's standard library: lists, numbers, choices.")
+
+
+def types_block(house, core, old):
+    """The types and constants of the code that these definitions speak of, by the file that declares them."""
+    declared = {}
     for _, crate, file, name in house.outside[core]:
-        if file.startswith("declared."):
-            parts = file.split(".")
-            is_constant, is_variant = parts[-1] == "TheConstants", parts[-1] == "TheVariants"
-            declared.setdefault(crate, set()).add(name if is_constant else parts[-2] if is_variant else parts[-1])
-        else:
-            words.add((crate, file, name))
-    types = "; ".join(f"{crate} " + ", ".join(f"`{name}`" for name in sorted(names)) for crate, names in sorted(declared.items()))
-    return rows + [""] + wrapped(f"They speak of these types and constants, which the code declares: {types}. And of {len(words)}"
-                                 " definitions of the toolchain's standard library: lists, numbers, choices.")
+        parts = file.split(".")
+        if parts[0] == "declared":
+            of_crate = parts[1:-1] if parts[-1] == "TheConstants" else parts[1:-2] if parts[-1] == "TheVariants" else parts[1:-1]
+            shown = name if parts[-1] == "TheConstants" else parts[-2] if parts[-1] == "TheVariants" else parts[-1]
+            declared.setdefault(f"`{crate}/src/{'/'.join(of_crate)}.rt`", set()).add(shown)
+    order = [key for key in keys_of(old) if key in declared]
+    order += sorted(key for key in declared if key not in order)
+    rows = ["| file | types and constants | what they are |", "|---|---|---|"]
+    for key in order:
+        if not (TOP / "crates" / key.strip("`")).exists():
+            sys.exit(f"statement: there is no file {key}")
+        names = ", ".join(f"`{name}`" for name in sorted(declared[key]))
+        rows.append(f"| {key} | {names} | {gloss_of(old, key, 2)} |")
+    return rows
 
 
 def crates_block(house, core, headline, old):
@@ -313,6 +330,13 @@ def misplaced(house, core, rows):
     return sorted(found)
 
 
+def unknown_names(page, headline):
+    """The names of the page's formula, left of the glosses, that are no definition under the headline."""
+    formula = re.search(r"^```\n(.*?)^```", page, re.M | re.S).group(1)
+    words = {word for line in formula.split("\n") for word in re.findall(r"\w*[a-z]\w*[A-Z_]\w*", re.sub(r"(?<=\S) {3,}.*", "", line))}
+    return sorted(f"the formula names {word}, which the headline does not rest on" for word in words - {one.name for one in headline})
+
+
 def make_page(house, page):
     """The page with each block between its markers as it should be, and what else is wrong."""
     core = house.closure([house.named(path) for path in CORE])
@@ -329,6 +353,8 @@ def make_page(house, page):
         elif name == "reading":
             new = reading_block(house, core, old)
             reading.extend(new)
+        elif name == "types":
+            new = types_block(house, core, old)
         elif name == "names":
             new = names_block(house, core, reading)
         elif name == "crates":
@@ -338,7 +364,7 @@ def make_page(house, page):
         return begin + "\n" + "\n".join(new) + "\n" + end
 
     new = re.sub(r"(<!-- found: (\w+) -->)\n(.*?)(<!-- end -->)", block, page, flags=re.S)
-    wrong = misplaced(house, core, reading)
+    wrong = misplaced(house, core, reading) + unknown_names(page, clauses["headline"])
     wrong += [f"the page does not say what it adds: {line}" for line in new.split("\n") if line.endswith("| ? |")]
     return new, wrong
 

@@ -15,10 +15,9 @@ use Rattle.run_model.specs.Views.{View, is_start, view_of}
 use Rattle.run_model.proofs.Enters.{known_after-append}
 use Rattle.run_model.proofs.Views.{test_cases, view_of-other, view_of-own}
 use Rattle.causes.specs.declared.key.Key.{Key}
-use Rattle.causes.specs.declared.key.TheConstants.{MATES}
-use Rattle.causes.specs.Keys.{enters_key, events_key, mates_key, same_key, starts_key}
-use Rattle.causes.specs.Positions.{is_mate_of, is_event_of, is_start_of, is_at_position, positions}
-use Rattle.causes.specs.Tables.{AddsPosition, IsKnownTable, IsPlaceTable, Learns, adds_enter, adds_enter_by, adds_mate, adds_mate_by, adds_start, positions_of_key}
+use Rattle.causes.specs.Keys.{enters_key, events_key, same_key, starts_key}
+use Rattle.causes.specs.Positions.{is_event_of, is_start_of, positions}
+use Rattle.causes.specs.Tables.{AddsPosition, IsKnownTable, IsPlaceTable, Learns, adds_enter, adds_enter_by, adds_start, positions_of_key}
 use Rattle.causes.proofs.JoinLemmas.{tail_is}
 use Rattle.causes.proofs.PositionLemmas.{positions-push}
 
@@ -26,17 +25,9 @@ and-false : (a : Bool) → (a && false) ≡ false
 and-false true = refl
 and-false false = refl
 
-and-true : (a : Bool) → (a && true) ≡ a
-and-true true = refl
-and-true false = refl
-
 -- nothing is added for a key of another kind
 skipped : (test : Key → Bool) (at : ℕ) (old new : List (Key × List ℕ)) (key : Key) → AddsPosition test at old new → test key ≡ false → positions_of_key new key ≡ positions_of_key old key
 skipped test at old new key adds apart = adds key ∙ rw apart refl
-
-no_mate : (mate : Option ℕ) (key : Key) → (MATES == key.kind) ≡ false → adds_mate_by mate key ≡ false
-no_mate None key h = refl
-no_mate (Some at) key h = rw h refl
 
 no_enter : (rank : ℕ) (call : Call) (key : Key) → ((comm : ℕ) → same_key (enters_key rank comm) key ≡ false) → adds_enter_by rank call key ≡ false
 no_enter rank (Enter comm kind root op count ints) key h = h comm
@@ -61,10 +52,6 @@ enter_is rank (Abort code) other comm = refl
 enter_is rank (Trap fault) other comm = refl
 enter_is rank End other comm = refl
 
-mate_is : (mate : Option ℕ) (at : ℕ) → adds_mate_by mate (mates_key at) ≡ is_at_position mate at
-mate_is None at = refl
-mate_is (Some other) at = and-true (other == at)
-
 -- what is added for a key, where its test says as much as that of the events
 added : (test : Key → Bool) (passes : Event → Bool) (events : List Event) (event : Event) (old new : List (Key × List ℕ)) (key : Key) → AddsPosition test (length events) old new → test key ≡ passes event → positions_of_key old key ≡ positions passes 0 events → positions_of_key new key ≡ positions passes 0 (events ++ event ∷ [])
 added test passes events event old new key adds same is =
@@ -73,35 +60,26 @@ added test passes events event old new key adds same is =
     ∙ sym (positions-push passes events event)
 
 -- the places of one more event
-pub placed : (events : List Event) (event : Event) (old first second third new : List (Key × List ℕ)) → AddsPosition (same_key (events_key event.rank)) (length events) old first → AddsPosition (adds_start event) (length events) first second → AddsPosition (adds_enter event) (length events) second third → AddsPosition (adds_mate event) (length events) third new → IsPlaceTable events old → IsPlaceTable (events ++ event ∷ []) new
-placed events event old first second third new a b c d is =
+pub placed : (events : List Event) (event : Event) (old first second new : List (Key × List ℕ)) → AddsPosition (same_key (events_key event.rank)) (length events) old first → AddsPosition (adds_start event) (length events) first second → AddsPosition (adds_enter event) (length events) second new → IsPlaceTable events old → IsPlaceTable (events ++ event ∷ []) new
+placed events event old first second new a b c is =
     let at : ℕ = length events in
     let start : Bool = is_start (event.call, event.reply) in
     record {
       own = λ rank.
           let key : Key = events_key rank in
-          skipped (adds_mate event) at third new key d (no_mate event.mate key refl)
-          ∙ skipped (adds_enter event) at second third key c (enter_kept event key (λ comm. refl))
+          skipped (adds_enter event) at second new key c (enter_kept event key (λ comm. refl))
           ∙ skipped (adds_start event) at first second key b (and-false start)
           ∙ added (same_key (events_key event.rank)) (is_event_of rank) events event old first key a refl (is.own rank);
       starts = λ rank.
           let key : Key = starts_key rank in
-          skipped (adds_mate event) at third new key d (no_mate event.mate key refl)
-          ∙ skipped (adds_enter event) at second third key c (enter_kept event key (λ comm. refl))
+          skipped (adds_enter event) at second new key c (enter_kept event key (λ comm. refl))
           ∙ added (adds_start event) (is_start_of rank) events event first second key b refl
           (skipped (same_key (events_key event.rank)) at old first key a refl ∙ is.starts rank);
       enters = λ rank comm.
           let key : Key = enters_key rank comm in
-          skipped (adds_mate event) at third new key d (no_mate event.mate key refl)
-          ∙ added (adds_enter event) (is_enter_of rank comm) events event second third key c (ap (λ b. start && b) (enter_is event.rank event.call rank comm))
+          added (adds_enter event) (is_enter_of rank comm) events event second new key c (ap (λ b. start && b) (enter_is event.rank event.call rank comm))
           (skipped (adds_start event) at first second key b (and-false start)
           ∙ skipped (same_key (events_key event.rank)) at old first key a refl ∙ is.enters rank comm);
-      mates = λ mate.
-          let key : Key = mates_key mate in
-          added (adds_mate event) (is_mate_of mate) events event third new key d (mate_is event.mate mate)
-          (skipped (adds_enter event) at second third key c (enter_kept event key (λ comm. refl))
-          ∙ skipped (adds_start event) at first second key b (and-false start)
-          ∙ skipped (same_key (events_key event.rank)) at old first key a refl ∙ is.mates mate);
     }
 
 -- what a rank knows of its communicators
@@ -232,11 +210,10 @@ learns_more rank (x ∷ xs) old middle new item long is first second =
     learns_both rank (λ comm. made_in_got comm x.got) (λ comm. made_in_items comm xs) old middle new (subst Q is first) (subst P (tail_is x xs) second)
 
 -- the places of one more event, at the position that comes next
-pub placed_at : (events : List Event) (event : Event) (at : ℕ) (key : Key) (old first second third new : List (Key × List ℕ)) → key ≡ events_key event.rank → at ≡ length events → AddsPosition (same_key key) at old first → AddsPosition (adds_start event) at first second → AddsPosition (adds_enter event) at second third → AddsPosition (adds_mate event) at third new → IsPlaceTable events old → IsPlaceTable (events ++ event ∷ []) new
-placed_at events event at key old first second third new own is a b c d table =
+pub placed_at : (events : List Event) (event : Event) (at : ℕ) (key : Key) (old first second new : List (Key × List ℕ)) → key ≡ events_key event.rank → at ≡ length events → AddsPosition (same_key key) at old first → AddsPosition (adds_start event) at first second → AddsPosition (adds_enter event) at second new → IsPlaceTable events old → IsPlaceTable (events ++ event ∷ []) new
+placed_at events event at key old first second new own is a b c table =
     let K : Key → Type 0 = λ k. AddsPosition (same_key k) at old first in
     let A : ℕ → Type 0 = λ n. AddsPosition (same_key (events_key event.rank)) n old first in
     let B : ℕ → Type 0 = λ n. AddsPosition (adds_start event) n first second in
-    let C : ℕ → Type 0 = λ n. AddsPosition (adds_enter event) n second third in
-    let D : ℕ → Type 0 = λ n. AddsPosition (adds_mate event) n third new in
-    placed events event old first second third new (subst A is (subst K own a)) (subst B is b) (subst C is c) (subst D is d) table
+    let C : ℕ → Type 0 = λ n. AddsPosition (adds_enter event) n second new in
+    placed events event old first second new (subst A is (subst K own a)) (subst B is b) (subst C is c) table

@@ -2,7 +2,7 @@
 use Rattle.std.specs.Prelude.{ℕ, Bool, ◌==◌}
 use Rattle.std.specs.Ordering.{eq_of_both, on}
 use Rattle.causes.specs.declared.key.Key.{Key}
-use Rattle.causes.specs.declared.key.TheConstants.{ENTERS, EVENTS, MATES, STARTS}
+use Rattle.causes.specs.declared.key.TheConstants.{ENTERS, EVENTS, STARTS}
 
 -- all parts of two keys are equal
 abbrev pub same_key : Key → Key → Bool
@@ -22,7 +22,3 @@ starts_key rank = record { kind = STARTS; rank = rank; number = 0 }
 -- the Enters of a rank on a communicator
 abbrev pub enters_key : ℕ → ℕ → Key
 enters_key rank comm = record { kind = ENTERS; rank = rank; number = comm }
-
--- the starts that are paired with the earlier one at a position
-abbrev pub mates_key : ℕ → Key
-mates_key at = record { kind = MATES; rank = 0; number = at }

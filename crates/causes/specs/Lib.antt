@@ -4,6 +4,7 @@ pub mod Before
 pub mod Keys
 pub mod PositionTables
 pub mod Tables
+pub mod PairTables
 pub mod Beside
 pub mod Clocks
 pub mod inside

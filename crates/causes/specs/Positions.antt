@@ -1,8 +1,8 @@
 -- Positions of events: of a rank's starts by number, of its Enters of an instance, of the other start of a pair.
-use Rattle.std.specs.Prelude.{ℕ, List, [], ◌∷◌, ◌++◌, ◌+◌, Option, Some, None, Bool, false, ◌&&◌, ◌==◌, if◌then◌else◌, length, slice_get, take}
-use Rattle.std.specs.Option.{option_to_list}
+use Rattle.std.specs.Prelude.{ℕ, List, [], ◌∷◌, ◌+◌, Option, Some, None, Bool, false, ◌&&◌, ◌==◌, if◌then◌else◌, length, option_and_then, option_to_list, slice_get, take}
 use Rattle.run_model.specs.declared.event.Event.{Event}
 use Rattle.run_model.specs.Communicators.{is_enter_of}
+use Rattle.run_model.specs.Pairs.{Name, name_at, pairs_of, partner_of}
 use Rattle.run_model.specs.Views.{is_start}
 
 -- the positions of the events that pass a test, rising; the first event has position `at`
@@ -23,10 +23,6 @@ abbrev pub is_at_position : Option ℕ → ℕ → Bool
 is_at_position None at = false
 is_at_position (Some other) at = other == at
 
--- an event that is paired with the earlier start at a position
-abbrev pub is_mate_of : ℕ → Event → Bool
-is_mate_of at event = is_at_position event.mate at
-
 -- the number of an event of the rank among its events, by those before it
 abbrev pub next_number : ℕ → List Event → ℕ
 next_number rank before = length (positions (is_event_of rank) 0 before)
@@ -43,11 +39,14 @@ enter_position events rank comm instance = slice_get (positions (is_enter_of ran
 abbrev pub enter_instance_at : List Event → ℕ → ℕ → ℕ → ℕ
 enter_instance_at events rank comm at = length (positions (is_enter_of rank comm) 0 (take at events))
 
--- the mate that an event keeps
-abbrev pub mates_in : Option Event → List ℕ
-mates_in None = []
-mates_in (Some event) = option_to_list event.mate
+-- the position of the start that a name names
+abbrev pub position_of : List Event → Name → Option ℕ
+position_of events name = start_position events name.0 name.1
 
--- the other start of the pair of the start at a position, which the later one keeps as its mate
+-- the name of the other start of the pair that the start at a position is in
+abbrev pub partner_at : List Event → ℕ → Option Name
+partner_at events at = option_and_then (partner_of (pairs_of events)) (name_at events at)
+
+-- the position of that other start, whether an event keeps it as its mate or the two met later
 abbrev pub mates_of : List Event → ℕ → List ℕ
-mates_of events at = mates_in (slice_get events at) ++ positions (is_mate_of at) 0 events
+mates_of events at = option_to_list (option_and_then (position_of events) (partner_at events at))

@@ -1,6 +1,6 @@
 //! The names of lists of positions.
 ghost use Rattle.std.specs.Prelude.{◌≡◌};
-ghost use Rattle.causes.specs.Keys.{enters_key, events_key, mates_key, starts_key};
+ghost use Rattle.causes.specs.Keys.{enters_key, events_key, starts_key};
 
 use mpi_call::call::Comm;
 
@@ -10,17 +10,15 @@ pub const EVENTS: u8 = 0;
 pub const STARTS: u8 = 1;
 /// The Enters of a rank on a communicator.
 pub const ENTERS: u8 = 2;
-/// The starts that are paired with the earlier one at a position.
-pub const MATES: u8 = 3;
 
 /// The name of a list of positions.
 #[derive(Clone, Copy, Hash)]
 pub struct Key {
     /// Which kind of list.
     pub kind: u8,
-    /// The rank whose events stand in it; 0 for `MATES`.
+    /// The rank whose events stand in it.
     pub rank: u8,
-    /// The communicator of `ENTERS`, the earlier start's position of `MATES`, else 0.
+    /// The communicator of `ENTERS`, else 0.
     pub number: u32,
 }
 
@@ -72,15 +70,5 @@ pub fn enters_key(rank: u8, comm: Comm) -> Key
         kind: ENTERS,
         rank,
         number: comm,
-    }
-}
-
-pub fn mates_key(at: u32) -> Key
-    ensures { result ≡ mates_key at }
-{
-    Key {
-        kind: MATES,
-        rank: 0,
-        number: at,
     }
 }

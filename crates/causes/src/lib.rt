@@ -5,6 +5,7 @@ pub mod causes;
 mod clock;
 pub mod key;
 mod known;
+pub mod pair_table;
 pub mod places;
 pub mod position_table;
 pub mod positions;

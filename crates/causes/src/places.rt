@@ -3,9 +3,10 @@ ghost use Rattle.std.specs.List.Sorted.{IsNonDecreasingBy};
 ghost use Rattle.std.specs.Prelude.{◌≡◌, ◌++◌, ◌∷◌, [], ℕ, List, OnOk, length};
 ghost use Rattle.mpi_call.specs.Lists.{count_below};
 ghost use Rattle.run_model.specs.declared.event.Event.{Event as EventSpec};
-ghost use Rattle.causes.specs.Tables.{AddsPosition, IsPlaceTable, adds_enter, adds_mate, adds_start};
+ghost use Rattle.run_model.specs.Views.{starts_of, view_of};
+ghost use Rattle.causes.specs.Tables.{AddsPosition, IsPlaceTable, adds_enter, adds_start};
 
-use crate::key::{Key, enters_key, events_key, mates_key, starts_key};
+use crate::key::{Key, enters_key, events_key, starts_key};
 use crate::position_table::PositionTable;
 use mpi_call::call::Call;
 use run_model::event::Event;
@@ -35,24 +36,22 @@ impl PositionTable<Key> {
         Ok(())
     }
 
-    /// Adds the position of an event that has a mate.
-    fn push_mate(&mut self, at: u32, event: &Event) -> Result<(), AllocError>
-        ensures { OnOk result (AddsPosition (adds_mate event.now) at self.old self.new) }
-    {
-        match event.mate {
-            Some(mate) => self.push(&mates_key(mate), at),
-            None => Ok(()),
-        }
-    }
-
     /// Adds the position of an event.
     pub fn note(&mut self, at: u32, event: &Event) -> Result<(), AllocError>
         ensures { OnOk result ((before : List EventSpec) → at ≡ length before → IsPlaceTable before self.old → IsPlaceTable (before ++ event.now ∷ []) self.new) }
     {
         self.push(&events_key(event.rank), at)?;
         self.push_start(at, event)?;
-        self.push_enter(at, event)?;
-        self.push_mate(at, event)
+        self.push_enter(at, event)
+    }
+
+    /// The number that a rank's start has at the position that comes next.
+    pub fn next_start(&self, rank: u8, at: u32) -> u32
+        ensures { (before : List EventSpec) → at ≡ length before → IsPlaceTable before self.now → result ≡ length (starts_of (view_of before rank)) }
+    {
+        let starts = self.get(&starts_key(rank)).len();
+        // There are no more starts than positions.
+        starts.min(at as usize) as u32
     }
 }
 

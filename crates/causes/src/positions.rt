@@ -47,13 +47,6 @@ impl Positions {
         }
     }
 
-    /// Adds positions at the end.
-    pub fn push_all(&mut self, places: &[u32]) -> Result<(), AllocError>
-        ensures { OnOk result (self.new ≡ self.old ++ places.now) }
-    {
-        self.values.extend_from_slice(places)
-    }
-
     /// The positions in order.
     pub fn as_slice(&self) -> &[u32]
         ensures { result.now ≡ self.now }

@@ -4,7 +4,6 @@ ghost use Rattle.std.specs.Option.{option_to_list};
 ghost use Rattle.mpi_call.specs.Needs.{needs};
 ghost use Rattle.run_model.specs.declared.event.Event.{Event as EventSpec};
 ghost use Rattle.causes.specs.Beside.{AreTables};
-ghost use Rattle.causes.specs.Positions.{mates_in};
 ghost use Rattle.causes.specs.Steps.{collected_from, completed_from, needed_enters, entered_one, given_from, received_at, rests_on, given_by_items};
 
 use crate::positions::Positions;
@@ -75,30 +74,17 @@ fn push_collected(
     push_enters(found, tables, *comm, instance, enter, members, me)
 }
 
-/// The mate that the event at a position keeps.
-fn mate_at(before: &[Event], at: u32) -> Option<u32>
-    ensures { option_to_list result ≡ mates_in (slice_get before.now at) }
-{
-    match before.get(at as usize) {
-        Some(event) => event.mate,
-        None => None,
-    }
-}
-
 /// Adds what the completion of the send at a position rests on.
 fn push_received(
     found: &mut Positions,
-    before: &[Event],
     tables: &Tables,
     at: u32,
     send: &Call,
 ) -> Result<(), AllocError>
-    requires { AreTables before.now tables.now }
-    ensures { OnOk result (found.new ≡ found.old ++ received_at before.now at send.now) }
+    ensures { OnOk result ((before : List EventSpec) → AreTables before tables.now → found.new ≡ found.old ++ received_at before at send.now) }
 {
     if let Call::Send { sync: true, .. } = send {
-        found.push_some(mate_at(before, at))?;
-        return found.push_all(tables.mates(at));
+        return found.push_some(tables.partner(at));
     }
     Ok(())
 }
@@ -130,7 +116,7 @@ fn push_given(
             at,
             &start.call,
         ),
-        Got::Sent => push_received(found, before, tables, at, &start.call),
+        Got::Sent => push_received(found, tables, at, &start.call),
         Got::Nothing => Ok(()),
     }
 }

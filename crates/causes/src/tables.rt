@@ -1,13 +1,14 @@
 //! The tables that stand beside the events.
-ghost use Rattle.std.specs.Prelude.{◌≡◌, ◌<◌, ◌++◌, ◌∷◌, [], List, IfOk, OnOk, length};
+ghost use Rattle.std.specs.Prelude.{◌≡◌, ◌<◌, ◌++◌, ◌∷◌, [], List, IfOk, OnOk, length, option_to_list};
 ghost use Rattle.run_model.specs.declared.event.Event.{Event as EventSpec};
 ghost use Rattle.run_model.specs.Communicators.{members_for_rank};
 ghost use Rattle.run_model.specs.Views.{view_of};
 ghost use Rattle.causes.specs.Beside.{AreTables};
-ghost use Rattle.causes.specs.Positions.{enter_position, enter_instance_at, positions, is_mate_of, start_position};
+ghost use Rattle.causes.specs.Positions.{enter_instance_at, enter_position, mates_of, start_position};
 
-use crate::key::{Key, enters_key, mates_key, starts_key};
+use crate::key::{Key, enters_key, starts_key};
 use crate::known::KnownMembers;
+use crate::pair_table::PairTable;
 use crate::places::count_below;
 use crate::position_table::PositionTable;
 use mpi_call::call::Comm;
@@ -22,6 +23,8 @@ pub struct Tables {
     pub ranks: u8,
     /// Positions of events by keys.
     pub places: PositionTable<Key>,
+    /// The pairs of starts.
+    pub pairs: PairTable,
     /// The communicators that each rank knows by its replies.
     pub known: KnownMembers,
     /// All ranks.
@@ -39,6 +42,7 @@ impl Tables {
         Ok(Tables {
             ranks,
             places: PositionTable::new(alloc),
+            pairs: PairTable::new(alloc),
             known: KnownMembers::new(alloc),
             world: all_ranks(alloc, ranks)?,
             nobody: Ranks::new(alloc),
@@ -50,6 +54,8 @@ impl Tables {
         ensures tables { OnOk result ((before : List EventSpec) → at ≡ length before → AreTables before self.old → AreTables (before ++ event.now ∷ []) self.new) }
         ensures ranks { self.new.ranks ≡ self.old.ranks }
     {
+        let number = self.places.next_start(event.rank, at);
+        self.pairs.note(number, event)?;
         self.places.note(at, event)?;
         self.known.note(event)
     }
@@ -78,11 +84,14 @@ impl Tables {
         count_below(self.places.get(&enters_key(rank, comm)), at)
     }
 
-    /// The positions of the later starts that are paired with the one at a position.
-    pub fn mates(&self, at: u32) -> &[u32]
-        ensures { (before : List EventSpec) → AreTables before self.now → result.now ≡ positions (is_mate_of at) 0 before }
+    /// The position of the other start of the pair that the start at a position is in.
+    pub fn partner(&self, at: u32) -> Option<u32>
+        ensures { (before : List EventSpec) → AreTables before self.now → option_to_list result ≡ mates_of before at }
     {
-        self.places.get(&mates_key(at))
+        match self.pairs.partner(at) {
+            Some((rank, number)) => self.start(rank, number),
+            None => None,
+        }
     }
 
     /// The members of a communicator for a rank; none where it doesn't know it.

@@ -6,7 +6,7 @@ use crate::causes::Causes;
 use mpi_call::call::{Call, Source, Tag, TakeMode};
 use mpi_call::lists::{Ints, Starts};
 use mpi_call::reply::{Got, Item, Items, Reply};
-use run_model::event::Event;
+use run_model::event::{Event, Meetings};
 use std::alloc::{AllocError, Global};
 use std::process::Abort;
 use std::rt::HostRuntime;
@@ -26,6 +26,7 @@ fn send(alloc: Global, rank: u8, dest: u8, sync: bool, mate: Option<u32>) -> Eve
         call,
         reply: Reply::Done,
         mate,
+        met: Meetings::none(),
     }
 }
 
@@ -42,6 +43,7 @@ fn post(rank: u8, mate: Option<u32>) -> Event {
         call,
         reply: Reply::Done,
         mate,
+        met: Meetings::none(),
     }
 }
 
@@ -59,6 +61,7 @@ fn take(alloc: Global, rank: u8, start: u32, got: Got) -> Result<Event, AllocErr
         call,
         reply: Reply::Took(items),
         mate: None,
+        met: Meetings::none(),
     })
 }
 

@@ -8,13 +8,13 @@ use Rattle.mpi_call.specs.declared.call.Halt.{Halt}
 use Rattle.mpi_call.specs.declared.call.Halt.TheVariants.{Stuck}
 use Rattle.mpi_call.specs.declared.reply.Reply.TheVariants.{Stopped}
 use Rattle.run_model.specs.declared.event.Event.{Event}
-use Rattle.run_model.specs.Allowed.{IsAllowed}
+use Rattle.run_model.specs.Allowed.{IsPrompt}
 use Rattle.run_model.specs.Due.{halt_of_reply, halted, or_else}
 use Rattle.run_model.specs.Program.{Standing}
-use Rattle.run_model.specs.Run.{IsEvent, IsRun}
+use Rattle.run_model.specs.Run.{IsPromptEvent, IsPromptRun}
 use Rattle.run_model.specs.Views.{Next}
 use Rattle.run_model.proofs.ChosenLaws.{cannot_go}
-use Rattle.run_model.proofs.RunLaws.{IsRun-event}
+use Rattle.run_model.proofs.Prompt.{IsPromptRun-event}
 use Rattle.picked_runs.specs.declared.turn.Pick.{Pick}
 use Rattle.picked_runs.specs.declared.turn.Pick.TheVariants.{First, Sender, Index}
 use Rattle.picked_runs.specs.Picks.{picked_event}
@@ -72,11 +72,11 @@ free_take (event ∷ events) (suc few) (suc many) h free =
 
 -- 3. it is made again
 
-pub again_asked : (next : Next) (n : ℕ) (events : List Event) (at : ℕ) (event : Event) → IsRun next n events → slice_get events at ≡ Some event
-    → IsEvent next n (take at events) event
+pub again_asked : (next : Next) (n : ℕ) (events : List Event) (at : ℕ) (event : Event) → IsPromptRun next n events → slice_get events at ≡ Some event
+    → IsPromptEvent next n (take at events) event
 again_asked next n events at event run there =
-    let F : List Event → Type 0 = λ l. IsRun next n l in
-    IsRun-event next n (take at events) (drop (suc at) events) event (subst F (sym (split_at events at event there).0) run)
+    let F : List Event → Type 0 = λ l. IsPromptRun next n l in
+    IsPromptRun-event next n (take at events) (drop (suc at) events) event (subst F (sym (split_at events at event there).0) run)
 
 stuck_halts : (before : List Event) (event : Event) → event.reply ≡ Stopped Stuck → halted (before ++ event ∷ []) ≡ None → ⊥
 stuck_halts before event stuck free =
@@ -85,7 +85,7 @@ stuck_halts before event stuck free =
     absurd (cc)
 
 not_held : (next : Next) (n : ℕ) (before after : List Event) (event : Event) (pick : Pick) → IsPickedEvent n before event pick
-    → IsAllowed next n before event.rank event.call event.reply → halted (before ++ event ∷ []) ≡ None → IsTurnHeldBack n before after (record { rank = event.rank; pick = pick }) event.call → ⊥
+    → IsPrompt next n before event.rank event.call event.reply → halted (before ++ event ∷ []) ≡ None → IsTurnHeldBack n before after (record { rank = event.rank; pick = pick }) event.call → ⊥
 not_held next n before after event First picked allowed free held =
     stuck_halts before event (cannot_go next n before event.rank event.call event.reply (held.held refl) allowed) free
 not_held next n before after event (Sender sender) picked allowed free held =

@@ -6,7 +6,7 @@ use Rattle.mpi_call.specs.declared.call.Call.{Call}
 use Rattle.mpi_call.specs.declared.reply.Reply.{Reply}
 use Rattle.run_model.specs.declared.event.Event.{Event}
 use Rattle.run_model.specs.Program.{IsAfter, Standing}
-use Rattle.run_model.specs.Run.{IsRun}
+use Rattle.run_model.specs.Run.{IsPromptRun}
 use Rattle.run_model.specs.Serial.{first_stage, call_after}
 use Rattle.run_model.specs.Views.{Next}
 use Rattle.picked_runs.specs.declared.turn.Pick.{Pick}
@@ -119,10 +119,10 @@ course_held standing program n events one two runs is programs ranks same =
     record { program_is = programs ∙ is.program_is; ranks_are = ranks ∙ is.ranks_are; events_are = same ∙ is.events_are; runs_are = is.runs_are }
 
 -- a machine of this program has made a run of it
-pub run_of : {P : Type 0} (next : P → Next) (one other : P) (n m : ℕ) (events : List Event) → one ≡ other → n ≡ m → IsRun (next one) n events → IsRun (next other) m events
+pub run_of : {P : Type 0} (next : P → Next) (one other : P) (n m : ℕ) (events : List Event) → one ≡ other → n ≡ m → IsPromptRun (next one) n events → IsPromptRun (next other) m events
 run_of {P} next one other n m events p r run =
-    let F : P → Type 0 = λ q. IsRun (next q) n events in
-    let G : ℕ → Type 0 = λ k. IsRun (next other) k events in
+    let F : P → Type 0 = λ q. IsPromptRun (next q) n events in
+    let G : ℕ → Type 0 = λ k. IsPromptRun (next other) k events in
     subst G r (subst F p run)
 
 -- what a slice of a whole list was changed to

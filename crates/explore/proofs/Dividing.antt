@@ -6,7 +6,7 @@ use Rattle.run_model.specs.declared.event.Event.{Event}
 use Rattle.run_model.specs.Chosen.{order_of}
 use Rattle.run_model.specs.Due.{halt_of_reply}
 use Rattle.run_model.specs.Lists.{Along}
-use Rattle.run_model.specs.Run.{IsRun}
+use Rattle.run_model.specs.Run.{IsPromptRun}
 use Rattle.run_model.specs.Serial.{call_after}
 use Rattle.run_model.specs.Views.{Next, View, replies_in}
 use Rattle.run_model.proofs.Along.{Along-back}
@@ -36,7 +36,7 @@ pub record IsKept (n polls : ℕ) (polled : Bool) (IsSteady : List Event → Lis
 
 -- a run that has ended goes on from these events, and comes to this
 pub record IsOnward (next : Next) (output : Output) (n : ℕ) (IsSteady : List Event → List Event → Type 0) (outcome : RunOutcome) (before rest : List Event) : Type 0 where
-  pub run : IsRun next n (before ++ rest)
+  pub run : IsPromptRun next n (before ++ rest)
   pub ended : (rank : ℕ) → rank < n → call_after next n (before ++ rest) rank ≡ None
   pub numbered : AreNumberedInOrder n (before ++ rest)
   pub probes : Along IsProbeKept before rest
@@ -50,7 +50,7 @@ record HasOnward (next : Next) (output : Output) (n : ℕ) (IsSteady : List Even
   onward : IsOnward next output n IsSteady outcome other like
 
 onward_from : (next : Next) (output : Output) (n polls : ℕ) (polled : Bool) (IsSteady : List Event → List Event → Type 0) (outcome : RunOutcome) (one other rest : List Event)
-    → FuturesAreSame next output n → IsKept n polls polled IsSteady → IsRun next n other → AreNumberedInOrder n other → SameFuture n other one
+    → FuturesAreSame next output n → IsKept n polls polled IsSteady → IsPromptRun next n other → AreNumberedInOrder n other → SameFuture n other one
     → IsOnward next output n IsSteady outcome one rest → HasOnward next output n IsSteady outcome other rest
 onward_from next output n polls polled IsSteady outcome one other rest law kept run numbered same on =
     let back : SameFuture n one other = record { views = λ rank. sym (same.views rank); pairs = λ name. sym (same.pairs name); made = sym same.made } in
@@ -75,7 +75,7 @@ onward_more : (next : Next) (output : Output) (n polls : ℕ) (polled : Bool) (I
     → IsKept n polls polled IsSteady → IsOnward next output n IsSteady outcome before (event ∷ rest) → IsOnward next output n IsSteady outcome (before ++ event ∷ []) rest
 onward_more next output n polls polled IsSteady outcome before event rest kept on =
     let whole : before ++ event ∷ rest ≡ (before ++ event ∷ []) ++ rest = sym (append_assoc before (event ∷ []) rest) in
-    let R : List Event → Type 0 = λ l. IsRun next n l in
+    let R : List Event → Type 0 = λ l. IsPromptRun next n l in
     let E : List Event → Type 0 = λ l. (rank : ℕ) → rank < n → call_after next n l rank ≡ None in
     let N : List Event → Type 0 = λ l. AreNumberedInOrder n l in
     record {

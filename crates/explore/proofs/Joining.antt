@@ -8,7 +8,7 @@ use Rattle.mpi_call.specs.declared.reply.Reply.TheVariants.{Stopped}
 use Rattle.run_model.specs.declared.event.Event.{Event}
 use Rattle.run_model.specs.Allowed.{IsStuck, can_go}
 use Rattle.run_model.specs.Due.{halt_of_reply}
-use Rattle.run_model.specs.Run.{IsRun}
+use Rattle.run_model.specs.Run.{IsPromptRun}
 use Rattle.run_model.specs.Serial.{call_after, next_can_go}
 use Rattle.run_model.specs.Views.{Next, moment_at, view_of}
 use Rattle.run_model.proofs.ChosenLaws.{cannot_go}
@@ -31,7 +31,7 @@ use Rattle.explore.proofs.Trying.{followed_longer, listed_longer}
 abbrev no_calls : Next
 no_calls n rank replies = None
 
-pub held_reply : (next : Next) (n : ℕ) (before : List Event) (rank : ℕ) (call : Call) (pick : Pick) → IsRun next n before
+pub held_reply : (next : Next) (n : ℕ) (before : List Event) (rank : ℕ) (call : Call) (pick : Pick) → IsPromptRun next n before
     → has_pick n before rank call pick ≡ true → can_go n before rank (view_of before rank) call ≡ false
     → picked_reply n before rank call pick ≡ Stopped Stuck
 held_reply next n before rank call pick run offered held =
@@ -55,7 +55,7 @@ not_both b t f = (let no : true ≡ false = sym t ∙ f in cc)
 abbrev pub IsPick : Pick → Pick → Type 0
 IsPick one pick = one ≡ pick
 
-pub one_tried : (next : Next) (output : Output) (n polls : ℕ) (met : Met) (before : List Event) (turn : Turn) → IsRun next n before → turn.rank < n
+pub one_tried : (next : Next) (output : Output) (n polls : ℕ) (met : Met) (before : List Event) (turn : Turn) → IsPromptRun next n before → turn.rank < n
     → HasTried (question_of next output n polls) met before turn → HasTriedPicks (question_of next output n polls) met before turn.rank (IsPick turn.pick) true
 one_tried next output n polls met before turn run below tried =
     let rank : ℕ = turn.rank in
@@ -75,7 +75,7 @@ one_tried next output n polls met before turn run below tried =
       stuck = λ made stuck. tried.halts Stuck (held_reply next n before rank tried.call turn.pick run tried.offered (stuck rank tried.call below tried.asked));
     }
 
-pub one_not : (next : Next) (output : Output) (n polls : ℕ) (met : Met) (before : List Event) (turn : Turn) → IsRun next n before
+pub one_not : (next : Next) (output : Output) (n polls : ℕ) (met : Met) (before : List Event) (turn : Turn) → IsPromptRun next n before
     → IsUnanswered next n before turn → HasTriedPicks (question_of next output n polls) met before turn.rank (IsPick turn.pick) false
 one_not next output n polls met before turn run not =
     let rank : ℕ = turn.rank in

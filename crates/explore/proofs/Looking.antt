@@ -10,7 +10,7 @@ use Rattle.run_model.specs.declared.event.Event.{Event}
 use Rattle.run_model.specs.Allowed.{IsStuck, can_go}
 use Rattle.run_model.specs.Due.{halt_of_reply, halted}
 use Rattle.run_model.specs.Lists.{Along, IsPrefixOf}
-use Rattle.run_model.specs.Run.{IsRun}
+use Rattle.run_model.specs.Run.{IsPromptRun}
 use Rattle.run_model.specs.Serial.{call_after, next_can_go}
 use Rattle.run_model.specs.Views.{Next, moment_at, view_of}
 use Rattle.run_model.proofs.Along.{Along-front}
@@ -40,7 +40,7 @@ listed_as listed one other same there = (let F : RunOutcome → Type 0 = λ o. I
 -- 1. a state
 
 -- where no call can go, the halt is Stuck
-halt_stuck : (next : Next) (n : ℕ) (before : List Event) (rank : ℕ) (call : Call) (pick : Pick) (halt : Halt) → IsRun next n before
+halt_stuck : (next : Next) (n : ℕ) (before : List Event) (rank : ℕ) (call : Call) (pick : Pick) (halt : Halt) → IsPromptRun next n before
     → IsHalting next (moment_at n before rank) call pick halt → IsStuck next n before → Stuck ≡ halt
 halt_stuck next n before rank call pick halt run halting stuck =
     let reply : picked_reply n before rank call pick ≡ Stopped Stuck = held_reply next n before rank call pick run halting.offered (stuck rank call halting.below halting.asked) in
@@ -193,17 +193,17 @@ first_halt (event ∷ events) halt h =
 
 -- a root that is halted decides what its runs come to
 halted_runs : (next : Next) (output : Output) (n : ℕ) (root one other : List Event) (halt : Halt) → HaltsDecideOutcomes next output n → halted root ≡ Some halt
-    → IsRun next n (root ++ one) → ((rank : ℕ) → rank < n → call_after next n (root ++ one) rank ≡ None)
-    → IsRun next n (root ++ other) → ((rank : ℕ) → rank < n → call_after next n (root ++ other) rank ≡ None)
+    → IsPromptRun next n (root ++ one) → ((rank : ℕ) → rank < n → call_after next n (root ++ one) rank ≡ None)
+    → IsPromptRun next n (root ++ other) → ((rank : ℕ) → rank < n → call_after next n (root ++ other) rank ≡ None)
     → outcome_of_run output n (root ++ one) ≡ outcome_of_run output n (root ++ other)
 halted_runs next output n root one other halt law there run ended run' ended' =
     let f = first_halt root halt there in
     let stopped : f.event.reply ≡ Stopped halt = stopped_by f.event.reply halt f.here in
     let whole : (more : List Event) → root ++ more ≡ f.before ++ f.event ∷ (f.after ++ more) =
     λ more. ap (λ l. l ++ more) f.whole ∙ append_assoc f.before (f.event ∷ f.after) more in
-    let R : List Event → Type 0 = λ l. IsRun next n l in
+    let R : List Event → Type 0 = λ l. IsPromptRun next n l in
     let E : List Event → Type 0 = λ l. (rank : ℕ) → rank < n → call_after next n l rank ≡ None in
-    let decided : (more : List Event) → IsRun next n (root ++ more) → ((rank : ℕ) → rank < n → call_after next n (root ++ more) rank ≡ None)
+    let decided : (more : List Event) → IsPromptRun next n (root ++ more) → ((rank : ℕ) → rank < n → call_after next n (root ++ more) rank ≡ None)
     → outcome_of_run output n (root ++ more) ≡ halted_outcome next output n f.before halt =
     λ more r e. ap (outcome_of_run output n) (whole more) ∙ law f.before (f.after ++ more) f.event halt (subst R (whole more) r) (subst E (whole more) e) f.none stopped in
     decided one run ended ∙ sym (decided other run' ended')
@@ -217,7 +217,7 @@ root_listed next output n under first met halt more law begun grows there whole 
     let noted = begun.ended halt there in
     let c = noted.comes in
     let begins = taken_begins next n under c.run c.taken in
-    let R : List Event → Type 0 = λ l. IsRun next n l in
+    let R : List Event → Type 0 = λ l. IsPromptRun next n l in
     let E : List Event → Type 0 = λ l. (rank : ℕ) → rank < n → call_after next n l rank ≡ None in
     let same : outcome_of_run output n (root ++ begins.0) ≡ outcome_of_run output n (root ++ more) =
     halted_runs next output n root begins.0 more halt law there (subst R (sym begins.1) c.picked.run) (subst E (sym begins.1) c.taken.ended) whole.run whole.ended in

@@ -7,11 +7,11 @@ use Rattle.mpi_call.specs.Lists.{IsIn}
 use Rattle.run_model.specs.declared.event.Event.{Event}
 use Rattle.run_model.specs.Due.{halt_of_reply, halted, or_else}
 use Rattle.run_model.specs.Lists.{Along}
-use Rattle.run_model.specs.Run.{IsEvent, IsRun}
+use Rattle.run_model.specs.Run.{IsPromptEvent, IsPromptRun}
 use Rattle.run_model.specs.Views.{Next}
 use Rattle.run_model.proofs.Along.{Along-back}
 use Rattle.run_model.proofs.ChosenLaws.{cannot_go}
-use Rattle.run_model.proofs.RunLaws.{IsRun-event}
+use Rattle.run_model.proofs.Prompt.{IsPromptRun-event}
 use Rattle.run_model.proofs.Views.{option_cases}
 use Rattle.picked_runs.specs.declared.turn.Pick.{Pick}
 use Rattle.picked_runs.specs.declared.turn.Turn.{Turn}
@@ -51,16 +51,16 @@ halted_behind before event halt stopped =
       | inr none ↦ (halt, whole ∙ ap (λ o. or_else o (Some halt)) none)
     ]
 
-behind_end : (next : Next) (n : ℕ) (before rest : List Event) → IsRun next n (before ++ rest) → IsAtEnd next n before → Along IsProbeKept before rest
+behind_end : (next : Next) (n : ℕ) (before rest : List Event) → IsPromptRun next n (before ++ rest) → IsAtEnd next n before → Along IsProbeKept before rest
 behind_end next n before [] run end = tt
 behind_end next n before (event ∷ rest) run end =
     elim end [
       | inl stuck ↦
-          let step : IsEvent next n before event = IsRun-event next n before rest event run in
+          let step : IsPromptEvent next n before event = IsPromptRun-event next n before rest event run in
           let reply : event.reply ≡ Stopped Stuck = cannot_go next n before event.rank event.call event.reply (stuck event.rank event.call step.rank step.call) step.reply in
           let now = halted_behind before event Stuck reply in
-          (kept_stopped before event Stuck reply, probes_behind next n (before ++ event ∷ []) rest now.0 now.1 (Along-back (IsEvent next n) [] before (event ∷ rest) run.along).1)
-      | inr there ↦ probes_behind next n before (event ∷ rest) there.0 there.1 (Along-back (IsEvent next n) [] before (event ∷ rest) run.along)
+          (kept_stopped before event Stuck reply, probes_behind next n (before ++ event ∷ []) rest now.0 now.1 (Along-back (IsPromptEvent next n) [] before (event ∷ rest) run.along).1)
+      | inr there ↦ probes_behind next n before (event ∷ rest) there.0 there.1 (Along-back (IsPromptEvent next n) [] before (event ∷ rest) run.along)
     ]
 
 -- 2. what the recording by these turns comes to was found
@@ -72,7 +72,7 @@ found_by next output n root turns found numbers under end same comes =
     let begins = taken_begins next n turns comes.run comes.taken in
     let after : List Event = begins.0 in
     let whole : comes.run ≡ root ++ (under.more ++ after) = sym begins.1 ∙ (ap (λ l. l ++ after) under.made ∙ append_assoc root under.more after) in
-    let R : List Event → Type 0 = λ l. IsRun next n l in
+    let R : List Event → Type 0 = λ l. IsPromptRun next n l in
     let K : List Event → Type 0 = λ l. Along IsProbeKept l after in
     let T : List Event → Type 0 = λ l. IsRunByTurns next n turns l in
     let U : List Turn → Type 0 = λ l. IsRunByTurns next n l (root ++ (under.more ++ after)) in
@@ -195,7 +195,7 @@ history_there next n turns (other ∷ states) there =
     ]
 
 pub state_met : (next : Next) (output : Output) (n : ℕ) (root : List Event) (met met' : Met) (code : List ℤ) (turns : List Turn) → CodesFixKeys → KeysFixFutures next n
-    → IsUnderWay next output n root met → IsRun next n (events_of_turns next n turns) → code_at next n turns ≡ code → IsStateAdded met met' code turns
+    → IsUnderWay next output n root met → IsPromptRun next n (events_of_turns next n turns) → code_at next n turns ≡ code → IsStateAdded met met' code turns
     → IsVisited n (histories next n met'.states) (events_of_turns next n turns)
 state_met next output n root met met' code turns codes keys way run same added =
     let L : Met → Type 0 = λ m. IsVisited n (histories next n m.states) (events_of_turns next n turns) in
@@ -229,7 +229,7 @@ none_way next output n root met none =
     let W : Met → Type 0 = λ m. IsUnderWay next output n root m in
     subst W (sym none) (record { are_states = λ turns there. absurd there; coded = λ code there. absurd there; found = λ found there. absurd there; apart = tt })
 
-pub root_under : (next : Next) (n : ℕ) (turns : List Turn) → All (λ (t : Turn). t.rank < n) turns → All (λ (t : Turn). IsPickOf n t.pick) turns → IsRun next n (events_of_turns next n turns)
+pub root_under : (next : Next) (n : ℕ) (turns : List Turn) → All (λ (t : Turn). t.rank < n) turns → All (λ (t : Turn). IsPickOf n t.pick) turns → IsPromptRun next n (events_of_turns next n turns)
     → AreNumberedInOrder n (events_of_turns next n turns) → IsUnder next n (events_of_turns next n turns) turns
 root_under next n turns all picks run numbered =
     record { more = []; made = sym (append-nil (events_of_turns next n turns)); ranks = all; picks = picks; run = run; numbered = numbered; probes = tt }

@@ -10,12 +10,13 @@ use Rattle.run_model.specs.Allowed.{flags_of}
 use Rattle.run_model.specs.Pairs.{named}
 use Rattle.run_model.specs.Readiness.{is_ready}
 use Rattle.run_model.specs.Program.{AsksInBounds, IsCallInBounds}
-use Rattle.run_model.specs.Run.{IsRun}
+use Rattle.run_model.specs.Run.{IsPromptRun}
 use Rattle.run_model.specs.Serial.{call_after}
 use Rattle.run_model.specs.Views.{Next, View, moment_at, moment_of, start_at, view_of}
 use Rattle.run_model.proofs.Choosing.{choice_some}
 use Rattle.run_model.proofs.Origins.{AllBelow}
-use Rattle.run_model.proofs.RunLaws.{Lawful, kept_run}
+use Rattle.run_model.proofs.Prompt.{kept_prompt}
+use Rattle.run_model.proofs.RunLaws.{Lawful}
 use Rattle.picked_runs.specs.declared.turn.Pick.{Pick}
 use Rattle.picked_runs.specs.declared.turn.Pick.TheVariants.{First, Sender, Index}
 use Rattle.picked_runs.specs.Picks.{call_from, completes_one, has_pick, is_offered, is_ready_at, looks, picked_choice}
@@ -56,7 +57,7 @@ sender_apart sender h = cc
 pub index_apart : (index : ℕ) → Index index ≡ First → ⊥
 index_apart index h = cc
 
-pub sender_offered : (next : Next) (n : ℕ) (before : List Event) (me : ℕ) (call : Call) (sender : ℕ) → IsRun next n before
+pub sender_offered : (next : Next) (n : ℕ) (before : List Event) (me : ℕ) (call : Call) (sender : ℕ) → IsPromptRun next n before
     → has_pick n before me call (Sender sender) ≡ true → (looks call ≡ true) × (sender < senders_of call n)
 sender_offered next n before me call sender run h =
     let there = pick_there n before me call (Sender sender) (sender_apart sender) h in
@@ -89,7 +90,7 @@ not_both : (b : Bool) → b ≡ true → b ≡ false → ⊥
 not_both b t f = (let no : true ≡ false = sym t ∙ f in cc)
 
 -- where a sender is there, all that can be picked are senders
-pub only_senders : (next : Next) (n : ℕ) (before : List Event) (me : ℕ) (call : Call) (some : Pick) → IsRun next n before
+pub only_senders : (next : Next) (n : ℕ) (before : List Event) (me : ℕ) (call : Call) (some : Pick) → IsPromptRun next n before
     → IsSenderBelow (senders_of call n) some → has_pick n before me call some ≡ true
     → (pick : Pick) → has_pick n before me call pick ≡ true → IsPickSettled n before me call pick → IsSenderBelow (senders_of call n) pick
 only_senders next n before me call some run is offered (Sender sender) h settled = (sender, refl, (sender_offered next n before me call sender run h).1)
@@ -113,7 +114,7 @@ few_listed n got (Trap fault) bounds = omega arith
 few_listed n got End bounds = omega arith
 
 -- a pick that can be made is one of a turn
-pub pick_within : (next : Next) (n : ℕ) (before : List Event) (me : ℕ) (call : Call) (pick : Pick) → Lawful next → AsksInBounds next → IsRun next n before → me < n
+pub pick_within : (next : Next) (n : ℕ) (before : List Event) (me : ℕ) (call : Call) (pick : Pick) → Lawful next → AsksInBounds next → IsPromptRun next n before → me < n
     → call_after next n before me ≡ Some call → has_pick n before me call pick ≡ true → IsPickOf n pick
 pick_within next n before me call First lawful asks run below asked h = tt
 pick_within next n before me call (Sender sender) lawful asks run below asked h =
@@ -121,7 +122,7 @@ pick_within next n before me call (Sender sender) lawful asks run below asked h 
     let F : Bool → Type 0 = λ b. sender < (if b then n else 0) in
     subst F there.0 there.1
 pick_within next n before me call (Index index) lawful asks run below asked h =
-    let kept = kept_run next n before lawful run in
+    let kept = kept_prompt next n before lawful run in
     let own : View = view_of before me in
     let bounds : IsCallInBounds n (length own) call = asks n me own call (run.some, run.few, below) (kept.came me below) asked in
     let few : length (listed_by call) ≤ MOST_STARTS = few_listed n (length own) call bounds in
@@ -136,7 +137,7 @@ abbrev pub IsChoiceOf : ℕ → Call → Pick → Type 0
 IsChoiceOf n call pick = IsChoice (senders_of call n) (length (listed_by call)) pick
 
 -- where a sender or an index is there, all that can be picked are such
-pub only_choices : (next : Next) (n : ℕ) (before : List Event) (me : ℕ) (call : Call) (some : Pick) → IsRun next n before
+pub only_choices : (next : Next) (n : ℕ) (before : List Event) (me : ℕ) (call : Call) (some : Pick) → IsPromptRun next n before
     → IsChoiceOf n call some → has_pick n before me call some ≡ true
     → (pick : Pick) → has_pick n before me call pick ≡ true → IsPickSettled n before me call pick → IsChoiceOf n call pick
 only_choices next n before me call some run is offered (Sender sender) h settled = inl (sender, refl, (sender_offered next n before me call sender run h).1)
@@ -152,7 +153,7 @@ only_choices next n before me call some run is offered First h settled =
 abbrev pub IsChoiceOrNone : ℕ → Call → Pick → Type 0
 IsChoiceOrNone n call pick = IsChoiceOf n call pick ⊎ (First ≡ pick)
 
-pub any_choice : (next : Next) (n : ℕ) (before : List Event) (me : ℕ) (call : Call) → IsRun next n before
+pub any_choice : (next : Next) (n : ℕ) (before : List Event) (me : ℕ) (call : Call) → IsPromptRun next n before
     → (pick : Pick) → has_pick n before me call pick ≡ true → IsPickSettled n before me call pick → IsChoiceOrNone n call pick
 any_choice next n before me call run First h settled = inr refl
 any_choice next n before me call run (Sender sender) h settled = inl (inl (sender, refl, (sender_offered next n before me call sender run h).1))

@@ -3,7 +3,7 @@ use Rattle.std.proofs.Common.{◌≡◌, ◌<◌, ◌∙◌, ◌++◌, ◌∷◌
 use Rattle.run_model.specs.declared.event.Event.{Event}
 use Rattle.run_model.specs.Due.{halted}
 use Rattle.run_model.specs.Program.{IsAfter, Standing}
-use Rattle.run_model.specs.Run.{IsRun}
+use Rattle.run_model.specs.Run.{IsPromptRun}
 use Rattle.run_model.specs.Views.{Next}
 use Rattle.picked_runs.specs.declared.turn.Pick.TheVariants.{First}
 use Rattle.picked_runs.specs.declared.turn.Turn.{Turn}
@@ -42,7 +42,7 @@ quiet_here {P} next standing program n races events after machine runs rank is t
 
 pub went_along : {P R : Type 0} (next : P → Next) (standing : R → Standing P) (program : P) (n : ℕ) (root : List Event) (turns : List Turn) (one two : MachineState P) (runs : List R) (run : R) (rank : ℕ)
     → IsState (next program) n root turns → IsCourse standing program n (events_of_turns (next program) n turns) one runs → rank < n → two.program ≡ one.program → two.ranks ≡ one.ranks
-    → IsRun (next program) n two.events → IsTurnMade (next program) n (events_of_turns (next program) n turns) two.events (record { rank = rank; pick = First }) → IsLastAnswered two.events
+    → IsPromptRun (next program) n two.events → IsTurnMade (next program) n (events_of_turns (next program) n turns) two.events (record { rank = rank; pick = First }) → IsLastAnswered two.events
     → IsAfter program n rank two.events (standing run)
     → IsCourse standing program n (events_of_turns (next program) n (turns ++ (record { rank = rank; pick = First }) ∷ [])) two (set runs rank run)
 went_along {P} {R} next standing program n root turns one two runs run rank state is below programs ranks all made last after =

@@ -3,7 +3,7 @@ use Rattle.std.proofs.Common.{◌≡◌, ◌<◌, ◌+◌, ◌∙◌, ◌||◌, 
 use Rattle.mpi_call.specs.declared.call.Call.{Call}
 use Rattle.mpi_call.specs.Calls.{listed_by}
 use Rattle.run_model.specs.declared.event.Event.{Event}
-use Rattle.run_model.specs.Run.{IsRun}
+use Rattle.run_model.specs.Run.{IsPromptRun}
 use Rattle.run_model.specs.Serial.{call_after}
 use Rattle.run_model.specs.Views.{Next}
 use Rattle.picked_runs.specs.declared.turn.Pick.{Pick}
@@ -26,7 +26,7 @@ went_trans next output n root one two three a b =
     }
 
 -- one turn, answered or not
-one_of : (next : Next) (output : Output) (n polls : ℕ) (met : Met) (before : List Event) (turn : Turn) (answered : Bool) → IsRun next n before → turn.rank < n
+one_of : (next : Next) (output : Output) (n polls : ℕ) (met : Met) (before : List Event) (turn : Turn) (answered : Bool) → IsPromptRun next n before → turn.rank < n
     → MatchBool answered (HasTried (question_of next output n polls) met before turn) (IsUnanswered next n before turn)
     → HasTriedPicks (question_of next output n polls) met before turn.rank (IsPick turn.pick) answered
 one_of next output n polls met before turn true run below tried = one_tried next output n polls met before turn run below tried
@@ -48,7 +48,7 @@ or_with false true = refl
 or_with false false = refl
 
 turn_more : (next : Next) (output : Output) (n polls : ℕ) (met met' : Met) (before : List Event) (turn : Turn) (One Both : Pick → Type 0) (made answered : Bool)
-    → IsRun next n before → turn.rank < n → AreBoth One (IsPick turn.pick) Both → StaysMet met.states met'.states met.found met'.found met.polled met'.polled
+    → IsPromptRun next n before → turn.rank < n → AreBoth One (IsPick turn.pick) Both → StaysMet met.states met'.states met.found met'.found met.polled met'.polled
     → HasTriedPicks (question_of next output n polls) met before turn.rank One made
     → MatchBool answered (HasTried (question_of next output n polls) met' before turn) (IsUnanswered next n before turn)
     → HasTriedPicks (question_of next output n polls) met' before turn.rank Both (if answered then true else made)
@@ -80,7 +80,7 @@ index_both low =
     }
 
 pub sender_more : (next : Next) (output : Output) (n polls : ℕ) (met met' : Met) (before : List Event) (rank low : ℕ) (made answered : Bool)
-    → IsRun next n before → rank < n → StaysMet met.states met'.states met.found met'.found met.polled met'.polled
+    → IsPromptRun next n before → rank < n → StaysMet met.states met'.states met.found met'.found met.polled met'.polled
     → HasTriedPicks (question_of next output n polls) met before rank (IsSenderBelow low) made
     → MatchBool answered (HasTried (question_of next output n polls) met' before (record { rank = rank; pick = Sender low })) (IsUnanswered next n before (record { rank = rank; pick = Sender low }))
     → HasTriedPicks (question_of next output n polls) met' before rank (IsSenderBelow (low + 1)) (if answered then true else made)
@@ -88,7 +88,7 @@ sender_more next output n polls met met' before rank low made answered run below
     turn_more next output n polls met met' before (record { rank = rank; pick = Sender low }) (IsSenderBelow low) (IsSenderBelow (low + 1)) made answered run below (sender_both low) grows tried one
 
 pub index_more : (next : Next) (output : Output) (n polls : ℕ) (met met' : Met) (before : List Event) (rank low : ℕ) (made answered : Bool)
-    → IsRun next n before → rank < n → StaysMet met.states met'.states met.found met'.found met.polled met'.polled
+    → IsPromptRun next n before → rank < n → StaysMet met.states met'.states met.found met'.found met.polled met'.polled
     → HasTriedPicks (question_of next output n polls) met before rank (IsIndexBelow low) made
     → MatchBool answered (HasTried (question_of next output n polls) met' before (record { rank = rank; pick = Index low })) (IsUnanswered next n before (record { rank = rank; pick = Index low }))
     → HasTriedPicks (question_of next output n polls) met' before rank (IsIndexBelow (low + 1)) (if answered then true else made)
@@ -96,7 +96,7 @@ index_more next output n polls met met' before rank low made answered run below 
     turn_more next output n polls met met' before (record { rank = rank; pick = Index low }) (IsIndexBelow low) (IsIndexBelow (low + 1)) made answered run below (index_both low) grows tried one
 
 -- a sender was there: then only senders can be picked
-pub rank_senders : (next : Next) (output : Output) (n polls : ℕ) (met : Met) (before : List Event) (rank : ℕ) (call : Call) → IsRun next n before
+pub rank_senders : (next : Next) (output : Output) (n polls : ℕ) (met : Met) (before : List Event) (rank : ℕ) (call : Call) → IsPromptRun next n before
     → call_after next n before rank ≡ Some call → HasTriedPicks (question_of next output n polls) met before rank (IsSenderBelow (senders_of call n)) true
     → HasTriedPicks (question_of next output n polls) met before rank IsAnyPick true
 rank_senders next output n polls met before rank call run asked tried =
@@ -110,7 +110,7 @@ choice_both : (n : ℕ) (call : Call) → AreBoth (IsSenderBelow (senders_of cal
 choice_both n call = record { parts = λ pick is. is; first = λ pick is. inl is; second = λ pick is. inr is }
 
 -- no sender was there, but a start at some index
-pub rank_indices : (next : Next) (output : Output) (n polls : ℕ) (met met' : Met) (before : List Event) (rank : ℕ) (call : Call) → IsRun next n before
+pub rank_indices : (next : Next) (output : Output) (n polls : ℕ) (met met' : Met) (before : List Event) (rank : ℕ) (call : Call) → IsPromptRun next n before
     → call_after next n before rank ≡ Some call → StaysMet met.states met'.states met.found met'.found met.polled met'.polled
     → HasTriedPicks (question_of next output n polls) met before rank (IsSenderBelow (senders_of call n)) false
     → HasTriedPicks (question_of next output n polls) met' before rank (IsIndexBelow (length (listed_by call))) true
@@ -125,7 +125,7 @@ rank_indices next output n polls met met' before rank call run asked grows sende
     (only_choices next n before rank call s.1 run s.2 (subst O same s.4)) (λ no. (let not : true ≡ false = no in absurd (cc))) tried
 
 -- neither: then nothing was picked
-pub rank_first : (next : Next) (output : Output) (n polls : ℕ) (one two three : Met) (before : List Event) (rank : ℕ) (call : Call) (answered : Bool) → IsRun next n before → rank < n
+pub rank_first : (next : Next) (output : Output) (n polls : ℕ) (one two three : Met) (before : List Event) (rank : ℕ) (call : Call) (answered : Bool) → IsPromptRun next n before → rank < n
     → call_after next n before rank ≡ Some call → StaysMet one.states two.states one.found two.found one.polled two.polled
     → StaysMet two.states three.states two.found three.found two.polled three.polled
     → HasTriedPicks (question_of next output n polls) one before rank (IsSenderBelow (senders_of call n)) false

@@ -9,12 +9,12 @@ use Rattle.run_model.specs.Allowed.{IsAllowedBy, IsStuck, can_go}
 use Rattle.run_model.specs.Chosen.{chosen_event}
 use Rattle.run_model.specs.Due.{halt_at, halt_of_reply, halted, is_full, or_else}
 use Rattle.run_model.specs.Lists.{Along, IsPrefixOf, world}
-use Rattle.run_model.specs.Run.{IsEvent, IsRun}
+use Rattle.run_model.specs.Run.{IsPromptEvent, IsPromptRun}
 use Rattle.run_model.specs.Serial.{Stage, with_chosen_event, first_stage, attempt, attempt_with, attempts, call_after, is_stuck, others_wait, rounds}
 use Rattle.run_model.specs.Views.{Next, moment_at, view_of}
 use Rattle.run_model.proofs.ChosenLaws.{cannot_go}
 use Rattle.run_model.proofs.Prefixes.{prefix_append, prefix_refl, prefix_trans}
-use Rattle.run_model.proofs.RunLaws.{IsRun-event}
+use Rattle.run_model.proofs.Prompt.{IsPromptRun-event}
 use Rattle.run_model.proofs.Views.{test_cases}
 use Rattle.picked_runs.specs.declared.turn.Pick.{Pick}
 use Rattle.picked_runs.specs.declared.turn.Pick.TheVariants.{First, Sender, Index}
@@ -112,38 +112,38 @@ abbrev HaveEnded : Next → ℕ → List Event → Type 0
 HaveEnded next n events = (rank : ℕ) → rank < n → call_after next n events rank ≡ None
 
 -- where each rank has ended nothing follows
-none_behind : (next : Next) (n : ℕ) (before after : List Event) → IsRun next n (before ++ after) → HaveEnded next n before → after ≡ []
+none_behind : (next : Next) (n : ℕ) (before after : List Event) → IsPromptRun next n (before ++ after) → HaveEnded next n before → after ≡ []
 none_behind next n before [] run ended = refl
 none_behind next n before (event ∷ after) run ended =
-    let step : IsEvent next n before event = IsRun-event next n before after event run in
+    let step : IsPromptEvent next n before event = IsPromptRun-event next n before after event run in
     let no : Some event.call ≡ None = sym step.call ∙ ended event.rank step.rank in
     absurd (cc)
 
-pub ended_comes : (next : Next) (output : Output) (n : ℕ) (before run : List Event) → IsPrefixOf before run → IsRun next n run → HaveEnded next n before
+pub ended_comes : (next : Next) (output : Output) (n : ℕ) (before run : List Event) → IsPrefixOf before run → IsPromptRun next n run → HaveEnded next n before
     → outcome_of_run output n run ≡ outcome_of_run output n before
 ended_comes next output n before run begins is ended =
-    let R : List Event → Type 0 = λ l. IsRun next n l in
+    let R : List Event → Type 0 = λ l. IsPromptRun next n l in
     let none : begins.0 ≡ [] = none_behind next n before begins.0 (subst R (sym begins.1) is) ended in
     ap (outcome_of_run output n) (sym begins.1 ∙ (ap (λ l. before ++ l) none ∙ append-nil before))
 
 -- a halt right behind it decides
 halt_decides : (next : Next) (output : Output) (n : ℕ) → HaltsDecideOutcomes next output n → (before after run : List Event) (event : Event) (halt : Halt)
-    → before ++ event ∷ after ≡ run → IsRun next n run → HaveEnded next n run → halted before ≡ None → event.reply ≡ Stopped halt
+    → before ++ event ∷ after ≡ run → IsPromptRun next n run → HaveEnded next n run → halted before ≡ None → event.reply ≡ Stopped halt
     → outcome_of_run output n run ≡ halted_outcome next output n before halt
 halt_decides next output n law before after run event halt whole is ended free stopped =
-    let R : List Event → Type 0 = λ l. IsRun next n l in
+    let R : List Event → Type 0 = λ l. IsPromptRun next n l in
     let E : List Event → Type 0 = λ l. HaveEnded next n l in
     ap (outcome_of_run output n) (sym whole) ∙ law before after event halt (subst R (sym whole) is) (subst E (sym whole) ended) free stopped
 
 pub halted_comes : (next : Next) (output : Output) (n : ℕ) → HaltsDecideOutcomes next output n → (before run : List Event) (event : Event) (halt : Halt)
-    → IsPrefixOf (before ++ event ∷ []) run → IsRun next n run → HaveEnded next n run → halted before ≡ None → event.reply ≡ Stopped halt
+    → IsPrefixOf (before ++ event ∷ []) run → IsPromptRun next n run → HaveEnded next n run → halted before ≡ None → event.reply ≡ Stopped halt
     → outcome_of_run output n run ≡ halted_outcome next output n before halt
 halted_comes next output n law before run event halt begins is ended free stopped =
     halt_decides next output n law before begins.0 run event halt (sym (append_assoc before (event ∷ []) begins.0) ∙ begins.1) is ended free stopped
 
 -- where nothing can go and a rank is live, the next event is Stuck
 stuck_behind : (next : Next) (output : Output) (n : ℕ) → HaltsDecideOutcomes next output n → (before rest run : List Event) (rank : ℕ) (call : Call)
-    → before ++ rest ≡ run → IsRun next n run → HaveEnded next n run → halted before ≡ None → IsStuck next n before
+    → before ++ rest ≡ run → IsPromptRun next n run → HaveEnded next n run → halted before ≡ None → IsStuck next n before
     → rank < n → call_after next n before rank ≡ Some call → outcome_of_run output n run ≡ halted_outcome next output n before Stuck
 stuck_behind next output n law before [] run rank call whole is ended free stuck below asked =
     let same : before ≡ run = sym (append-nil before) ∙ whole in
@@ -151,20 +151,20 @@ stuck_behind next output n law before [] run rank call whole is ended free stuck
     let no : None ≡ Some call = sym (ended rank below) ∙ subst F same asked in
     absurd (cc)
 stuck_behind next output n law before (event ∷ rest) run rank call whole is ended free stuck below asked =
-    let R : List Event → Type 0 = λ l. IsRun next n l in
-    let step : IsEvent next n before event = IsRun-event next n before rest event (subst R (sym whole) is) in
+    let R : List Event → Type 0 = λ l. IsPromptRun next n l in
+    let step : IsPromptEvent next n before event = IsPromptRun-event next n before rest event (subst R (sym whole) is) in
     let reply : event.reply ≡ Stopped Stuck = cannot_go next n before event.rank event.call event.reply (stuck event.rank event.call step.rank step.call) step.reply in
     halt_decides next output n law before rest run event Stuck whole is ended free reply
 
 pub stuck_comes : (next : Next) (output : Output) (n : ℕ) → HaltsDecideOutcomes next output n → (before run : List Event) (rank : ℕ) (call : Call)
-    → IsPrefixOf before run → IsRun next n run → HaveEnded next n run → halted before ≡ None → IsStuck next n before
+    → IsPrefixOf before run → IsPromptRun next n run → HaveEnded next n run → halted before ≡ None → IsStuck next n before
     → rank < n → call_after next n before rank ≡ Some call → outcome_of_run output n run ≡ halted_outcome next output n before Stuck
 stuck_comes next output n law before run rank call begins is ended free stuck below asked =
     stuck_behind next output n law before begins.0 run rank call begins.1 is ended free stuck below asked
 
 -- 4. behind a halt no receive is posted, so probes are kept
 
-stopped_again : (next : Next) (n : ℕ) (now : List Event) (event : Event) (halt : Halt) → halted now ≡ Some halt → IsEvent next n now event → event.reply ≡ Stopped halt
+stopped_again : (next : Next) (n : ℕ) (now : List Event) (event : Event) (halt : Halt) → halted now ≡ Some halt → IsPromptEvent next n now event → event.reply ≡ Stopped halt
 stopped_again next n now event halt h step =
     let F : Option Halt → Type 0 = λ o. IsAllowedBy
     (or_else o (if is_full now then Some Limit else halt_at n now event.rank (view_of now event.rank) event.call))
@@ -184,7 +184,7 @@ kept_stopped before event halt stopped earlier comm source tag wait room sender 
     let no : Stopped halt ≡ Done = sym stopped ∙ done in
     absurd (cc)
 
-pub probes_behind : (next : Next) (n : ℕ) (now events : List Event) (halt : Halt) → halted now ≡ Some halt → Along (IsEvent next n) now events → Along IsProbeKept now events
+pub probes_behind : (next : Next) (n : ℕ) (now events : List Event) (halt : Halt) → halted now ≡ Some halt → Along (IsPromptEvent next n) now events → Along IsProbeKept now events
 probes_behind next n now [] halt h steps = tt
 probes_behind next n now (event ∷ events) halt h steps =
     let still : halted (now ++ event ∷ []) ≡ Some halt = halted-append now (event ∷ []) ∙ ap (λ o. or_else o (halted (event ∷ []))) h in

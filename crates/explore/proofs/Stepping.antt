@@ -4,7 +4,7 @@ use Rattle.std.proofs.Math.Seq.{take-length}
 use Rattle.std.proofs.lemmas.List.{take_more}
 use Rattle.run_model.specs.declared.event.Event.{Event}
 use Rattle.run_model.specs.Due.{halted}
-use Rattle.run_model.specs.Run.{IsRun}
+use Rattle.run_model.specs.Run.{IsPromptRun}
 use Rattle.run_model.specs.Views.{Next}
 use Rattle.run_model.proofs.Along.{Along-snoc}
 use Rattle.picked_runs.specs.declared.turn.Turn.{Turn}
@@ -82,7 +82,7 @@ step_state next n root turns events step kept =
     let before : List Event = step.before in
     let event : Event = step.event in
     let K : List Event → Type 0 = λ l. IsProbeKept l event in
-    let R : List Event → Type 0 = λ l. IsRun next n l in
+    let R : List Event → Type 0 = λ l. IsPromptRun next n l in
     let N : List Event → Type 0 = λ l. AreNumberedInOrder n l in
     let whole : events ≡ root ++ (step.more ++ event ∷ []) = step.whole ∙ (ap (λ l. l ++ event ∷ []) step.begins ∙ append_assoc root step.more (event ∷ [])) in
     record {

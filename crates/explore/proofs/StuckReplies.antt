@@ -11,7 +11,7 @@ use Rattle.mpi_call.specs.declared.reply.Item.{Item}
 use Rattle.mpi_call.specs.declared.reply.Reply.{Reply}
 use Rattle.mpi_call.specs.declared.reply.Reply.TheVariants.{Done, NotYet, Peeked, Stopped, Took}
 use Rattle.run_model.specs.declared.event.Event.{Event}
-use Rattle.run_model.specs.Allowed.{IsAllowed, IsAllowedBy, IsAnswer, IsHeld, IsPeekAnswer, IsStuck, IsTakeAnswer, first_long, flags_of, has_open, mode_holds, probe_of, taken_reply}
+use Rattle.run_model.specs.Allowed.{IsPrompt, IsAllowedBy, IsAnswer, IsHeld, IsPeekAnswer, IsStuck, IsTakeAnswer, first_long, flags_of, has_open, mode_holds, probe_of, taken_reply}
 use Rattle.run_model.specs.Due.{bad_request, due, halt_at, halted, is_full, is_mismatched}
 use Rattle.run_model.specs.Shape.{is_test}
 use Rattle.run_model.specs.Views.{Next, View, moment_of, view_of}
@@ -73,7 +73,7 @@ due_not_stuck n before me own call none h = elim (test_cases (is_full before)) [
 ]
 
 pub stuck_then : (next : Next) (n : ℕ) (before : List Event) (me : ℕ) (call : Call) (reply : Reply) → halted before ≡ None
-    → IsAllowed next n before me call reply → reply ≡ Stopped Stuck → IsStuck next n before
+    → IsPrompt next n before me call reply → reply ≡ Stopped Stuck → IsStuck next n before
 stuck_then next n before me call reply none is h =
     let own : View = view_of before me in
     let F : Option Halt → Type 0 = λ x. IsAllowedBy x (IsStuck next n before) (moment_of n before me own) call reply in

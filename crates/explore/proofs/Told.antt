@@ -10,11 +10,12 @@ use Rattle.run_model.specs.declared.event.Event.{Event}
 use Rattle.run_model.specs.Due.{halted}
 use Rattle.run_model.specs.Endings.{ending_by, ending_of}
 use Rattle.run_model.specs.Lists.{are_below, world}
-use Rattle.run_model.specs.Run.{IsRun}
+use Rattle.run_model.specs.Run.{IsPromptRun}
 use Rattle.run_model.specs.Views.{Next, view_of}
 use Rattle.run_model.proofs.Halts.{names, was_stopped}
 use Rattle.run_model.proofs.MemberLists.{AreMembers-world}
-use Rattle.run_model.proofs.RunLaws.{Kept, Lawful, kept_run}
+use Rattle.run_model.proofs.Prompt.{KeptPrompt, kept_prompt}
+use Rattle.run_model.proofs.RunLaws.{Lawful}
 use Rattle.run_model.proofs.Views.{option_cases}
 use Rattle.picked_runs.specs.declared.turn.Turn.{Turn}
 use Rattle.srr_entry.specs.Outputs.{Output, printed_of}
@@ -25,7 +26,7 @@ use Rattle.explore.specs.Courses.{ComesTo, reported_outcome}
 
 -- 1. the ranks that are told are ranks of the run
 
-stopped_below : (next : Next) (n : ℕ) (run : List Event) (rank : ℕ) → Kept next n run → was_stopped (view_of run rank) ≡ true → rank < n
+stopped_below : (next : Next) (n : ℕ) (run : List Event) (rank : ℕ) → KeptPrompt next n run → was_stopped (view_of run rank) ≡ true → rank < n
 stopped_below next n run rank kept h =
     elim (cases_lt rank n) [
       | inl below ↦ below
@@ -37,11 +38,11 @@ stopped_below next n run rank kept h =
 one_below : (n rank : ℕ) → rank < n → are_below n (rank ∷ []) ≡ true
 one_below n rank below = and_from (nat_lt rank n) true (lt-ltb rank n below) refl
 
-named_below : (next : Next) (n : ℕ) (run : List Event) (halt : Halt) (rank : ℕ) → Kept next n run → halted run ≡ Some halt → names rank halt ≡ true
+named_below : (next : Next) (n : ℕ) (run : List Event) (halt : Halt) (rank : ℕ) → KeptPrompt next n run → halted run ≡ Some halt → names rank halt ≡ true
     → are_below n (rank ∷ []) ≡ true
 named_below next n run halt rank kept h named = one_below n rank (stopped_below next n run rank kept (kept.halts.each halt rank h named))
 
-told_below : (next : Next) (n : ℕ) (run : List Event) (halt : Halt) → 0 < n → Kept next n run → halted run ≡ Some halt
+told_below : (next : Next) (n : ℕ) (run : List Event) (halt : Halt) → 0 < n → KeptPrompt next n run → halted run ≡ Some halt
     → are_below n (reported_ranks n (Halted halt)) ≡ true
 told_below next n run Stuck some kept h = (AreMembers-world n 0 some).below
 told_below next n run (Aborted rank code) some kept h = named_below next n run (Aborted rank code) rank kept h (eq-eqb rank rank refl)
@@ -51,7 +52,7 @@ told_below next n run (BadRequest rank start) some kept h = named_below next n r
 told_below next n run (Mismatched rank) some kept h = refl
 told_below next n run Limit some kept h = refl
 
-all_below : (next : Next) (n : ℕ) (run : List Event) → 0 < n → Kept next n run → are_below n (reported_ranks n (ending_of run)) ≡ true
+all_below : (next : Next) (n : ℕ) (run : List Event) → 0 < n → KeptPrompt next n run → are_below n (reported_ranks n (ending_of run)) ≡ true
 all_below next n run some kept =
     elim (option_cases (halted run)) [
       | inl halt ↦ ap (λ o. are_below n (reported_ranks n (ending_by o))) halt.1 ∙ told_below next n run halt.0 some kept halt.1
@@ -83,10 +84,10 @@ printed_same f n (rank ∷ ranks) below =
 abbrev outcome_with : Ending → List (ℕ × List ℕ) → RunOutcome
 outcome_with ending printed = record { ending = reported_ending ending; printed = printed }
 
-pub told_is : (next : Next) (output : Output) (n : ℕ) (run : List Event) → Lawful next → IsRun next n run
+pub told_is : (next : Next) (output : Output) (n : ℕ) (run : List Event) → Lawful next → IsPromptRun next n run
     → reported_outcome n (ending_of run) (map (printed_of output n run) (world n 0)) ≡ outcome_of_run output n run
 told_is next output n run lawful is =
-    let same = printed_same (printed_of output n run) n (reported_ranks n (ending_of run)) (all_below next n run is.some (kept_run next n run lawful is)) in
+    let same = printed_same (printed_of output n run) n (reported_ranks n (ending_of run)) (all_below next n run is.some (kept_prompt next n run lawful is)) in
     ap (outcome_with (ending_of run)) same
 
 -- 3. what a recording comes to

@@ -7,15 +7,15 @@ use Rattle.mpi_call.specs.declared.call.Halt.TheVariants.{Stuck}
 use Rattle.mpi_call.specs.declared.reply.Reply.{Reply}
 use Rattle.mpi_call.specs.declared.reply.Reply.TheVariants.{Stopped}
 use Rattle.run_model.specs.declared.event.Event.{Event}
-use Rattle.run_model.specs.Allowed.{IsAllowed, IsStuck, can_go}
+use Rattle.run_model.specs.Allowed.{IsPrompt, IsStuck, can_go}
 use Rattle.run_model.specs.Due.{halt_of_reply, halted, or_else}
 use Rattle.run_model.specs.Numbers.{communicators_of, number_among, origin_of}
-use Rattle.run_model.specs.Run.{IsEvent, IsRun}
+use Rattle.run_model.specs.Run.{IsPromptEvent, IsPromptRun}
 use Rattle.run_model.specs.Serial.{call_after}
 use Rattle.run_model.specs.Views.{Next, view_of}
 use Rattle.run_model.proofs.Along.{Along-snoc}
 use Rattle.run_model.proofs.ChosenLaws.{cannot_go}
-use Rattle.run_model.proofs.RunLaws.{IsRun-event}
+use Rattle.run_model.proofs.Prompt.{IsPromptRun-event}
 use Rattle.run_model.proofs.Views.{test_cases}
 use Rattle.picked_runs.specs.declared.turn.Pick.{Pick}
 use Rattle.picked_runs.specs.declared.turn.Pick.TheVariants.{First}
@@ -57,18 +57,18 @@ halt_of_last before event free =
 pub record IsMade (next : Next) (n : ℕ) (before after : List Event) (turn : Turn) (call : Call) : Type 0 where
   pub asked : call_after next n before turn.rank ≡ Some call
   pub answered : IsAnswered next n before after turn call
-  pub run : IsRun next n (before ++ picked_event n before turn.rank call turn.pick ∷ [])
-  pub allowed : IsAllowed next n before turn.rank call (picked_reply n before turn.rank call turn.pick)
+  pub run : IsPromptRun next n (before ++ picked_event n before turn.rank call turn.pick ∷ [])
+  pub allowed : IsPrompt next n before turn.rank call (picked_reply n before turn.rank call turn.pick)
   pub halt : halted after ≡ halt_of_reply (picked_reply n before turn.rank call turn.pick)
 
-pub made_event : (next : Next) (n : ℕ) (before after : List Event) (turn : Turn) → halted before ≡ None → IsRun next n after → (made : IsTurnMade next n before after turn)
+pub made_event : (next : Next) (n : ℕ) (before after : List Event) (turn : Turn) → halted before ≡ None → IsPromptRun next n after → (made : IsTurnMade next n before after turn)
     → IsMade next n before after turn made.call
 made_event next n before after turn free run made =
     let event : Event = picked_event n before turn.rank made.call turn.pick in
     let same : after ≡ before ++ event ∷ [] = made.answered.events_are in
-    let R : List Event → Type 0 = λ l. IsRun next n l in
-    let longer : IsRun next n (before ++ event ∷ []) = subst R same run in
-    let step : IsEvent next n before event = IsRun-event next n before [] event longer in
+    let R : List Event → Type 0 = λ l. IsPromptRun next n l in
+    let longer : IsPromptRun next n (before ++ event ∷ []) = subst R same run in
+    let step : IsPromptEvent next n before event = IsPromptRun-event next n before [] event longer in
     record { asked = made.asked; answered = made.answered; run = longer; allowed = step.reply; halt = ap halted same ∙ halt_of_last before event free }
 
 -- where its halt is not Stuck, its call could go, so one more turn makes it
@@ -107,7 +107,7 @@ made_numbered next n before after turn numbered made =
 
 -- 2. no halt: a state is noted
 
-pub next_step : (next : Next) (n : ℕ) (root : List Event) (turns : List Turn) (after : List Event) (turn : Turn) → IsState next n root turns → turn.rank < n → IsPickOf n turn.pick → IsRun next n after
+pub next_step : (next : Next) (n : ℕ) (root : List Event) (turns : List Turn) (after : List Event) (turn : Turn) → IsState next n root turns → turn.rank < n → IsPickOf n turn.pick → IsPromptRun next n after
     → IsTurnMade next n (events_of_turns next n turns) after turn → halted after ≡ None
     → IsSearchStep next n root (turns ++ turn ∷ []) after
 next_step next n root turns after turn state below pick run made none =
@@ -131,7 +131,7 @@ next_step next n root turns after turn state below pick run made none =
     }
 
 pub tried_state : (next : Next) (output : Output) (n polls : ℕ) (root : List Event) (turns : List Turn) (after : List Event) (turn : Turn) (met' : Met)
-    → IsState next n root turns → IsRun next n after → IsTurnMade next n (events_of_turns next n turns) after turn → halted after ≡ None
+    → IsState next n root turns → IsPromptRun next n after → IsTurnMade next n (events_of_turns next n turns) after turn → halted after ≡ None
     → IsStepFollowed next n polls met' after → HasTried (question_of next output n polls) met' (events_of_turns next n turns) turn
 tried_state next output n polls root turns after turn met' state run made none followed =
     let before : List Event = events_of_turns next n turns in
@@ -149,7 +149,7 @@ tried_state next output n polls root turns after turn met' state run made none f
 -- 3. a halt: what the recording comes to is noted
 
 pub tried_end : (next : Next) (output : Output) (n polls : ℕ) (root : List Event) (turns : List Turn) (after : List Event) (turn : Turn) (met' : Met) (halt : Halt)
-    → IsState next n root turns → IsRun next n after → (made : IsTurnMade next n (events_of_turns next n turns) after turn) → halted after ≡ Some halt
+    → IsState next n root turns → IsPromptRun next n after → (made : IsTurnMade next n (events_of_turns next n turns) after turn) → halted after ≡ Some halt
     → IsListed met'.found (halted_outcome next output n (events_of_turns next n turns) halt) → HasTried (question_of next output n polls) met' (events_of_turns next n turns) turn
 tried_end next output n polls root turns after turn met' halt state run made there listed =
     let before : List Event = events_of_turns next n turns in
@@ -168,7 +168,7 @@ tried_end next output n polls root turns after turn met' halt state run made the
     }
 
 -- Stuck: no call can go after the state, so its own recording comes to this
-pub stuck_end : (next : Next) (n : ℕ) (root : List Event) (turns : List Turn) (after : List Event) (turn : Turn) → IsState next n root turns → IsRun next n after
+pub stuck_end : (next : Next) (n : ℕ) (root : List Event) (turns : List Turn) (after : List Event) (turn : Turn) → IsState next n root turns → IsPromptRun next n after
     → IsTurnMade next n (events_of_turns next n turns) after turn → halted after ≡ Some Stuck → IsStuck next n (events_of_turns next n turns)
 stuck_end next n root turns after turn state run made there =
     let before : List Event = events_of_turns next n turns in
@@ -186,7 +186,7 @@ stuck_listed next output n root turns rank call listed law state below asked stu
 
 -- another halt: the recording by one more turn comes to this
 pub halt_under : (next : Next) (n : ℕ) (root : List Event) (turns : List Turn) (after : List Event) (turn : Turn) (halt : Halt) → IsState next n root turns → turn.rank < n
-    → IsRun next n after → IsTurnMade next n (events_of_turns next n turns) after turn → halted after ≡ Some halt → (halt ≡ Stuck → ⊥)
+    → IsPromptRun next n after → IsTurnMade next n (events_of_turns next n turns) after turn → halted after ≡ Some halt → (halt ≡ Stuck → ⊥)
     → (events_of_turns next n (turns ++ turn ∷ []) ≡ after)
 halt_under next n root turns after turn halt state below run made there other =
     let before : List Event = events_of_turns next n turns in
@@ -195,7 +195,7 @@ halt_under next n root turns after turn halt state below run made there other =
 
 -- its turns make a run under the root, at its end
 pub halt_state : (next : Next) (n : ℕ) (root : List Event) (turns : List Turn) (after : List Event) (turn : Turn) (halt : Halt) → IsState next n root turns → turn.rank < n → IsPickOf n turn.pick
-    → IsRun next n after → IsTurnMade next n (events_of_turns next n turns) after turn → halted after ≡ Some halt → (halt ≡ Stuck → ⊥)
+    → IsPromptRun next n after → IsTurnMade next n (events_of_turns next n turns) after turn → halted after ≡ Some halt → (halt ≡ Stuck → ⊥)
     → IsUnder next n root (turns ++ turn ∷ [])
 halt_state next n root turns after turn halt state below pick run made there other =
     let before : List Event = events_of_turns next n turns in
@@ -204,7 +204,7 @@ halt_state next n root turns after turn halt state below pick run made there oth
     let same : events_of_turns next n (turns ++ turn ∷ []) ≡ after = halt_under next n root turns after turn halt state below run made there other in
     let whole : after ≡ root ++ (state.under.more ++ event ∷ []) =
     made.answered.events_are ∙ (ap (λ l. l ++ event ∷ []) state.under.made ∙ append_assoc root state.under.more (event ∷ [])) in
-    let R : List Event → Type 0 = λ l. IsRun next n l in
+    let R : List Event → Type 0 = λ l. IsPromptRun next n l in
     let N : List Event → Type 0 = λ l. AreNumberedInOrder n l in
     let K : List Event → Type 0 = λ l. IsProbeKept l event in
     record {
@@ -219,13 +219,13 @@ halt_state next n root turns after turn halt state below pick run made there oth
     }
 
 pub halt_end : (next : Next) (n : ℕ) (root : List Event) (turns : List Turn) (after : List Event) (turn : Turn) (halt : Halt) → IsState next n root turns → turn.rank < n
-    → IsRun next n after → IsTurnMade next n (events_of_turns next n turns) after turn → halted after ≡ Some halt → (halt ≡ Stuck → ⊥)
+    → IsPromptRun next n after → IsTurnMade next n (events_of_turns next n turns) after turn → halted after ≡ Some halt → (halt ≡ Stuck → ⊥)
     → IsAtEnd next n (events_of_turns next n (turns ++ turn ∷ []))
 halt_end next n root turns after turn halt state below run made there other =
     inr (halt, ap halted (halt_under next n root turns after turn halt state below run made there other) ∙ there)
 
 pub halt_listed : (next : Next) (output : Output) (n : ℕ) (root : List Event) (turns : List Turn) (after : List Event) (turn : Turn) (halt : Halt) (listed : List FoundOutcome)
-    → HaltsDecideOutcomes next output n → IsState next n root turns → IsRun next n after → (made : IsTurnMade next n (events_of_turns next n turns) after turn)
+    → HaltsDecideOutcomes next output n → IsState next n root turns → IsPromptRun next n after → (made : IsTurnMade next n (events_of_turns next n turns) after turn)
     → halted after ≡ Some halt → events_of_turns next n (turns ++ turn ∷ []) ≡ after → IsOutcomeListed next output n (turns ++ turn ∷ []) listed
     → IsListed listed (halted_outcome next output n (events_of_turns next n turns) halt)
 halt_listed next output n root turns after turn halt listed law state run made there same noted =

@@ -3,7 +3,7 @@ use Rattle.std.specs.Prelude.{◌≡◌, ◌<◌, ◌⊎◌, ℕ, List, [], ◌�
 use Rattle.mpi_call.specs.Lists.{IsIn}
 use Rattle.run_model.specs.declared.event.Event.{Event}
 use Rattle.run_model.specs.Lists.{Along}
-use Rattle.run_model.specs.Run.{IsRun}
+use Rattle.run_model.specs.Run.{IsPromptRun}
 use Rattle.run_model.specs.Serial.{first_stage}
 use Rattle.run_model.specs.Views.{Next}
 use Rattle.picked_runs.specs.declared.turn.Turn.{Turn}
@@ -23,12 +23,13 @@ pub record AreTurnsOf (n : ℕ) (turns : List Turn) : Type 0 where
   pub ranks : All (λ turn. turn.rank < n) turns
   pub picks : All (λ turn. IsPickOf n turn.pick) turns
 
--- what is listed is what the run comes to that the recording by its turns makes. The run begins with the root, and keeps its probes from there on
+-- what is listed is what the run comes to that the recording by its turns makes. Nothing in it is late; it begins with the root, and keeps its
+-- probes from there on
 pub record IsFoundOutcome (next : Next) (output : Output) (n : ℕ) (root : List Event) (found : FoundOutcome) : Type 0 where
   pub more : List Event
   pub turns : AreTurnsOf n found.turns
   pub taken : IsRunByTurns next n found.turns (root ++ more)
-  pub run : IsRun next n (root ++ more)
+  pub run : IsPromptRun next n (root ++ more)
   pub numbered : AreNumberedInOrder n (root ++ more)
   pub probes : Along IsProbeKept root more
   pub outcome_is : found.outcome ≡ outcome_of_run output n (root ++ more)
@@ -48,7 +49,7 @@ pub record IsBehind (next : Next) (n : ℕ) (root : List Event) (turns : List Tu
   pub made : events_of_turns next n turns ≡ root ++ more
   pub probes : Along IsProbeKept root more
 
--- a whole run comes to this that begins with what the turns of one of these states make
+-- a whole run in which nothing is late comes to this that begins with what the turns of one of these states make
 pub record IsReachableOutcome (next : Next) (output : Output) (n : ℕ) (states : List (List Turn)) (outcome : RunOutcome) : Type 0 where
   pub turns : List Turn
   pub there : IsIn turns states
@@ -61,7 +62,8 @@ pub record IsLeftPatient (next : Next) (output : Output) (n polls : ℕ) (states
   pub left : IsReachableOutcome next output n states outcome
   pub patient : Along (IsPatientEvent polls) (events_of_turns next n left.turns) left.more
 
--- what is answered of a program on n ranks, of the runs that begin with what the turns `under` make; without turns, of all runs
+-- what is answered of a program on n ranks, of the runs that begin with what the turns `under` make; without turns, of all runs. In each of these
+-- nothing is late
 -- sound: each listed outcome is that of a run, which the recording by its turns makes
 -- apart: none is listed twice
 -- left: each state that is left is kept as turns of the ranks

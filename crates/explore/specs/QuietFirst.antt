@@ -57,14 +57,14 @@ pub record IsSearchedQuietly (question : Question) (races : Races) (root : List 
   pub looked : (turns : List Turn) → IsIn turns seen.states → IsLookedAtQuietly question races seen (events_of_turns question.next question.ranks turns)
   pub agreed : races.partial ≡ false → has_mismatch seen.listed ≡ false
 
--- then what each whole run comes to that is patient from the root on is listed
+-- then what each whole run comes to in which nothing is late, and that is patient from the root on, is listed
 abbrev pub PatientRunsAreListedQuietly : Next → Output → ℕ → Type 0
 PatientRunsAreListedQuietly next output n =
     (polls : ℕ) (races : Races) (root more : List Event) (states : List (List Turn)) (listed : List FoundOutcome) (polled : Bool)
     → IsSearchedQuietly (question_of next output n polls) races root (seen_of states listed polled)
     → IsWholeRun next n (root ++ more) → Along (IsPatientEvent polls) root more → IsListed listed (outcome_of_run output n (root ++ more))
 
--- and what each whole run does, where no rank was held back
+-- and what each whole run in which nothing is late does, where no rank was held back
 abbrev pub AllRunsAreListedQuietly : Next → Output → ℕ → Type 0
 AllRunsAreListedQuietly next output n =
     (polls : ℕ) (races : Races) (root more : List Event) (states : List (List Turn)) (listed : List FoundOutcome) (polled : Bool)

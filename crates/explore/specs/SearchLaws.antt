@@ -11,14 +11,14 @@ use Rattle.explore.specs.declared.found.FoundOutcome.{FoundOutcome}
 use Rattle.explore.specs.Explored.{IsListed}
 use Rattle.explore.specs.Searching.{IsSearched, question_of, seen_of}
 
--- where every state was looked at, what each whole run comes to that is patient from the root on is listed
+-- where every state was looked at, what each whole run comes to in which nothing is late, and that is patient from the root on, is listed
 abbrev pub PatientRunsAreListed : Next → Output → ℕ → Type 0
 PatientRunsAreListed next output n =
     (polls : ℕ) (root more : List Event) (states : List (List Turn)) (listed : List FoundOutcome) (polled : Bool)
     → IsSearched (question_of next output n polls) root (seen_of states listed polled) → halted root ≡ None
     → IsWholeRun next n (root ++ more) → Along (IsPatientEvent polls) root more → IsListed listed (outcome_of_run output n (root ++ more))
 
--- and what each whole run does, where no rank was held back
+-- and what each whole run in which nothing is late does, where no rank was held back
 abbrev pub AllRunsAreListed : Next → Output → ℕ → Type 0
 AllRunsAreListed next output n =
     (polls : ℕ) (root more : List Event) (states : List (List Turn)) (listed : List FoundOutcome) (polled : Bool)

@@ -9,7 +9,7 @@ use Rattle.run_model.specs.declared.event.Event.{Event}
 use Rattle.run_model.specs.Allowed.{IsStuck, can_go}
 use Rattle.run_model.specs.Due.{halt_of_reply, halted}
 use Rattle.run_model.specs.Lists.{Along, IsPrefixOf}
-use Rattle.run_model.specs.Run.{IsRun}
+use Rattle.run_model.specs.Run.{IsPromptRun}
 use Rattle.run_model.specs.Serial.{call_after, next_can_go}
 use Rattle.run_model.specs.Views.{Next, moment_at, view_of}
 use Rattle.picked_runs.specs.declared.turn.Pick.{Pick}
@@ -36,7 +36,8 @@ histories next n states = map (events_of_turns next n) states
 abbrev pub code_at : Next → ℕ → List Turn → List ℤ
 code_at next n turns = key_code (state_key n (events_of_turns next n turns))
 
--- what a search is to answer: what the runs of a program on so many ranks come to, in which a rank looks in vain at most `polls` times in a row
+-- what a search is to answer: what the runs of a program on so many ranks come to, in which nothing is late and a rank looks in vain at most `polls`
+-- times in a row
 pub record Question : Type 0 where
   pub next : Next
   pub output : Output
@@ -130,13 +131,14 @@ pub record AreRanksTried (question : Question) (seen : Seen) (before : List Even
   pub some : made ≡ true → (rank : ℕ) × (call : Call) × (rank < question.ranks) × (call_after question.next question.ranks before rank ≡ Some call)
   pub stuck : made ≡ true → IsStuck question.next question.ranks before → IsListed seen.listed (halted_outcome question.next question.output question.ranks before Stuck)
 
--- turns of ranks that make a run with a recording machine's numbers, which goes on from the root and keeps its probes from there on
+-- turns of ranks that make a run in which nothing is late, with a recording machine's numbers, which goes on from the root and keeps its probes from
+-- there on
 pub record IsUnder (next : Next) (n : ℕ) (root : List Event) (turns : List Turn) : Type 0 where
   pub more : List Event
   pub made : events_of_turns next n turns ≡ root ++ more
   pub ranks : All (λ turn. turn.rank < n) turns
   pub picks : All (λ turn. IsPickOf n turn.pick) turns
-  pub run : IsRun next n (events_of_turns next n turns)
+  pub run : IsPromptRun next n (events_of_turns next n turns)
   pub numbered : AreNumberedInOrder n (events_of_turns next n turns)
   pub probes : Along IsProbeKept root more
 
@@ -167,7 +169,7 @@ pub record IsOutcomeListed (next : Next) (output : Output) (n : ℕ) (turns : Li
   pub comes : ComesTo next output n turns outcome
   pub listed_is : IsListed listed outcome
 
--- these events are those that a state's turns make, and one more, which is no halt
+-- these events, a run in which nothing is late, are those that a state's turns make, and one more, which is no halt
 pub record IsSearchStep (next : Next) (n : ℕ) (root : List Event) (turns : List Turn) (events : List Event) : Type 0 where
   pub before : List Event
   pub event : Event
@@ -178,7 +180,7 @@ pub record IsSearchStep (next : Next) (n : ℕ) (root : List Event) (turns : Lis
   pub probes : Along IsProbeKept root more
   pub ranks : All (λ turn. turn.rank < n) turns
   pub picks : All (λ turn. IsPickOf n turn.pick) turns
-  pub run : IsRun next n events
+  pub run : IsPromptRun next n events
   pub numbered : AreNumberedInOrder n events
   pub free : halted events ≡ None
 

@@ -20,7 +20,7 @@ use srr_record::record_serial;
 use srr_record::rounds::take_turns;
 use std::alloc::{AllocError, Global};
 
-/// What is searched: the runs of a program on the ranks of a plan.
+/// What is searched: the runs of a program on the ranks of a plan, in which nothing is late.
 #[derive(Drop)]
 pub struct Setting<'a, P: Program, S> {
     pub alloc: Global,

@@ -3,7 +3,7 @@ use Rattle.std.proofs.Common.{◌≡◌, ◌∙◌, ◌<◌, Bool, Some, ap, fal
 use Rattle.mpi_call.specs.declared.call.Call.{Call}
 use Rattle.mpi_call.specs.declared.reply.Reply.{Reply}
 use Rattle.run_model.specs.Chosen.{chosen_reply}
-use Rattle.run_model.specs.Run.{IsRun}
+use Rattle.run_model.specs.Run.{IsPromptRun}
 use Rattle.run_model.specs.Program.{MayGive}
 use Rattle.run_model.specs.Serial.{Stage, attempt, call_after}
 use Rattle.run_model.specs.Views.{Next, replies_in, view_of}
@@ -24,13 +24,13 @@ same_program machine rank call (Replied reply) = refl
 same_program machine rank call Wait = refl
 
 pub given : {P : Type 0} (next : Next) (machine later : MachineState P) (rank : ℕ) (call : Call) (turn : Answer) (reply : Reply)
-    → Lawful next → IsRun next machine.ranks machine.events → IsRun next later.ranks later.events
+    → Lawful next → IsPromptRun next machine.ranks machine.events → IsPromptRun next later.ranks later.events
     → turn ≡ attempt_answer next machine.ranks machine.events machine.kept rank call → later ≡ after_answer machine rank call turn → turn ≡ Replied reply
     → MayGive next machine.ranks rank (replies_in (view_of machine.events rank)) reply
 given {P} next machine later rank call turn reply lawful run run_later is after replied =
     let made : Reply = chosen_reply machine.ranks machine.events rank call in
     let same : made ≡ reply = replied_by (is_answered next machine.ranks machine.events machine.kept rank call) made reply (sym is ∙ replied) in
-    let F : MachineState P → Type 0 = λ m. IsRun next m.ranks m.events in
+    let F : MachineState P → Type 0 = λ m. IsPromptRun next m.ranks m.events in
     let longer : F (after_answer machine rank call (Replied reply)) = subst F (after ∙ ap (λ t. after_answer machine rank call t) replied) run_later in
     let G : Reply → Type 0 = λ r. MayGive next machine.ranks rank (replies_in (view_of machine.events rank)) r in
     subst G same (may_give next machine.ranks machine.events rank call lawful run longer)

@@ -95,8 +95,8 @@ and_no false = refl
 
 -- a rank's last event starts and completes nothing
 pub last_idle : (rank : ℕ) (call : Call) (halt : Option Halt) → ends (call, last_reply halt) ≡ true → IsIdleEvent (event_with rank call (last_reply halt) None)
-last_idle rank call (Some halt) h = record { no_start = and_no (is_starting call); none_taken = refl; alone = refl }
-last_idle rank End None h = record { no_start = refl; none_taken = refl; alone = refl }
+last_idle rank call (Some halt) h = record { no_start = and_no (is_starting call); none_taken = refl; alone = refl; none_met = refl }
+last_idle rank End None h = record { no_start = refl; none_taken = refl; alone = refl; none_met = refl }
 last_idle rank (Send comm dest tag ints sync) None h = absurd (cc)
 last_idle rank (Post comm source tag room) None h = absurd (cc)
 last_idle rank (Enter comm kind root op count ints) None h = absurd (cc)
@@ -106,7 +106,7 @@ last_idle rank (Abort code) None h = absurd (cc)
 last_idle rank (Trap fault) None h = absurd (cc)
 
 pub idle_with : (rank : ℕ) (call : Call) (reply : Reply) → is_start (call, reply) ≡ false → taken_of ((call, reply) ∷ []) ≡ [] → IsIdleEvent (event_with rank call reply None)
-idle_with rank call reply s t = record { no_start = s; none_taken = t; alone = refl }
+idle_with rank call reply s t = record { no_start = s; none_taken = t; alone = refl; none_met = refl }
 
 -- what takes memory is no last reply
 pub more_takes : (events : List Event) (call : Call) (reply other : Reply) → other ≡ reply → ends (call, reply) ≡ false → takes_no_memory events call other ≡ true → false ≡ true

@@ -12,10 +12,11 @@ use Rattle.run_model.specs.Chosen.{halt_or, peek_reply, peeked_at}
 use Rattle.run_model.specs.Due.{due}
 use Rattle.run_model.specs.Pairs.{name_at}
 use Rattle.run_model.specs.Program.{MayGive}
-use Rattle.run_model.specs.Run.{IsRun}
+use Rattle.run_model.specs.Run.{IsPromptRun}
 use Rattle.run_model.specs.Serial.{Stage, call_after}
 use Rattle.run_model.specs.Views.{Next, is_start, moment_at, replies_in, view_of}
-use Rattle.run_model.proofs.RunLaws.{IsRun-event, Lawful, event_shaped, kept_run}
+use Rattle.run_model.proofs.Prompt.{IsPromptRun-event, kept_all, kept_prompt, prompt_event}
+use Rattle.run_model.proofs.RunLaws.{Lawful, event_shaped}
 use Rattle.run_model.proofs.Views.{test_cases}
 use Rattle.picked_runs.specs.declared.turn.Pick.{Pick}
 use Rattle.picked_runs.specs.declared.turn.Pick.TheVariants.{First, Sender, Index}
@@ -161,17 +162,17 @@ after_event program n events kept rank call pick reply event is = ap (λ (e : Ev
 
 -- the reply may be given
 pub picked_given : {P : Type 0} (next : Next) (machine later : MachineState P) (rank : ℕ) (call : Call) (pick : Pick) (answer : Option Reply) (reply : Reply)
-    → Lawful next → IsRun next machine.ranks machine.events → IsRun next later.ranks later.events
+    → Lawful next → IsPromptRun next machine.ranks machine.events → IsPromptRun next later.ranks later.events
     → answer ≡ picked_of machine.ranks machine.events rank call pick → later ≡ after_pick machine rank call pick answer → answer ≡ Some reply
     → MayGive next machine.ranks rank (replies_in (view_of machine.events rank)) reply
 picked_given {P} next machine later rank call pick answer reply lawful run run_later is after replied =
     let n : ℕ = machine.ranks in
     let events : List Event = machine.events in
     let one : Event = picked_event n events rank call pick in
-    let F : MachineState P → Type 0 = λ m. IsRun next m.ranks m.events in
+    let F : MachineState P → Type 0 = λ m. IsPromptRun next m.ranks m.events in
     let longer : F (after_pick machine rank call pick (Some reply)) = subst F (after ∙ ap (λ a. after_pick machine rank call pick a) replied) run_later in
-    let kept = kept_run next n events lawful run in
-    let step = IsRun-event next n events [] one longer in
+    let kept = kept_prompt next n events lawful run in
+    let step = IsPromptRun-event next n events [] one longer in
     let made : picked_reply n events rank call pick ≡ reply = elim (test_cases (has_pick n events rank call pick)) [
       | inl t ↦ (
           let here : Some (picked_reply n events rank call pick) ≡ Some reply = sym (rw t at is) ∙ replied in
@@ -187,7 +188,7 @@ picked_given {P} next machine later rank call pick answer reply lawful run run_l
       replies_are = refl;
       came = kept.came rank step.rank;
       asked = step.call;
-      shaped = event_shaped next n events one lawful run.some run.few kept step;
+      shaped = event_shaped next n events one lawful run.some run.few (kept_all next n events kept) (prompt_event next n events one kept.matched step);
     })
 
 -- a turn stands where the machine stands

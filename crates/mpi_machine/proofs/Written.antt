@@ -104,11 +104,11 @@ same_sender : (n : ℕ) (events : List Event) (rank : ℕ) (call : Call) (sender
 same_sender n events rank (Post comm source tag room) sender h same =
     let call : Call = Post comm source tag room in
     let reply : Reply = picked_reply n events rank call First in
-    let E : Option ℕ → Event = λ o. record { rank = rank; call = call; reply = reply; mate = if is_start (call, reply) then o else None } in
+    let E : Option ℕ → Event = λ o. record { rank = rank; call = call; reply = reply; mate = if is_start (call, reply) then o else None; met = [] } in
     ap E same
 same_sender n events rank (Peek comm source tag wait) sender h same =
     let call : Call = Peek comm source tag wait in
-    let E : Option ℕ → Event = λ o. record { rank = rank; call = call; reply = halt_or (due n events rank (view_of events rank) call) (peek_reply events wait o); mate = None } in
+    let E : Option ℕ → Event = λ o. record { rank = rank; call = call; reply = halt_or (due n events rank (view_of events rank) call) (peek_reply events wait o); mate = None; met = [] } in
     ap E same
 same_sender n events rank call sender h same = absurd (cc)
 
@@ -221,7 +221,7 @@ same_index n events rank starts mode index same =
     let flags : List Bool = flags_of (moment_of n events rank own) starts in
     let call : Call = Take starts mode in
     let R : List Item → Reply = λ items. if mode_holds mode flags then taken_reply rank (first_long own starts items) items else held_reply (is_test mode) in
-    let E : List ℕ → Event = λ places. record { rank = rank; call = call; reply = halt_or (due n events rank own call) (R (items_at (moment_of n events rank own) starts places)); mate = None } in
+    let E : List ℕ → Event = λ places. record { rank = rank; call = call; reply = halt_or (due n events rank own call) (R (items_at (moment_of n events rank own) starts places)); mate = None; met = [] } in
     ap E same
 
 -- the least place whose flag is true

@@ -14,7 +14,7 @@ ghost use Rattle.run_model.specs.Due.{halted};
 ghost use Rattle.run_model.specs.Pairs.{name_at};
 ghost use Rattle.run_model.specs.Program.{ends, MayGive};
 ghost use Rattle.run_model.specs.Serial.{attempt, call_after, is_stuck, others_wait, Stage};
-ghost use Rattle.run_model.specs.Run.{IsRun};
+ghost use Rattle.run_model.specs.Run.{IsPromptRun};
 ghost use Rattle.picked_runs.specs.declared.turn.Pick.TheVariants.{Index, Sender};
 ghost use Rattle.picked_runs.specs.Picked.{IsPicked};
 ghost use Rattle.picked_runs.specs.Turns.{take_turn};
@@ -45,7 +45,6 @@ use picked_runs::picks::Picks;
 use picked_runs::turn::{Pick, call_from};
 use requests::answer::takes_one;
 use requests::requests::{Requests, Started, TakeAnswer};
-use run_model::event::Event;
 use run_model::history::History;
 use run_model::program::Program;
 use run_model::shape::is_test;
@@ -173,12 +172,7 @@ impl<'a, P: Program> Machine<'a, P> {
             return Ok(None);
         };
         note(&mut self.picks, at, pick);
-        self.course.append(Event {
-            rank,
-            call,
-            reply: Reply::Done,
-            mate: Some(mate),
-        });
+        self.course.append(rank, call, Reply::Done, Some(mate));
         Ok(Some(Reply::Done))
     }
 
@@ -323,12 +317,12 @@ impl<'a, P: Program> Machine<'a, P> {
             TakeAnswer::TooLong { start } => {
                 let halt = Halt::Truncated { rank, start };
                 note(&mut self.picks, at, pick);
-                self.course.append(Event {
+                self.course.append(
                     rank,
-                    call: Call::Take { starts, mode },
-                    reply: Reply::Stopped(halt),
-                    mate: None,
-                });
+                    Call::Take { starts, mode },
+                    Reply::Stopped(halt),
+                    None,
+                );
                 Ok(Some(Reply::Stopped(halt)))
             }
             _ => unreachable!(),
@@ -367,12 +361,7 @@ impl<'a, P: Program> Machine<'a, P> {
         let at = prepare_pick(&mut self.course, &mut self.picks)?;
         let copied = reply::copy_of(&reply)?;
         note(&mut self.picks, at, pick);
-        self.course.append(Event {
-            rank,
-            call,
-            reply,
-            mate: None,
-        });
+        self.course.append(rank, call, reply, None);
         Ok(Some(copied))
     }
 
@@ -396,7 +385,7 @@ impl<'a, P: Program> Machine<'a, P> {
     /// The events so far are a run, and each rank has a place for its waiting call, which is
     /// its next one. The body does nothing: the machine's invariant says so, and callers take it from these clauses.
     fn is_run(&self)
-        ensures run { IsRun (P.next self.now.program) self.now.ranks self.now.events }
+        ensures run { IsPromptRun (P.next self.now.program) self.now.ranks self.now.events }
         ensures kept { length self.now.kept ≡ self.now.ranks }
         ensures waiting { AreWaitingCalls (P.next self.now.program) self.now.ranks self.now.events self.now.kept }
     {
@@ -441,12 +430,7 @@ impl<'a, P: Program> Machine<'a, P> {
         ensures after { self.new ≡ after_answer self.old rank call result }
     {
         self.requests.knows_on();
-        self.course.append(Event {
-            rank,
-            call,
-            reply: last_reply(halt),
-            mate: None,
-        });
+        self.course.append(rank, call, last_reply(halt), None);
         Answer::Replied(last_reply(halt))
     }
 
@@ -463,12 +447,7 @@ impl<'a, P: Program> Machine<'a, P> {
     {
         self.requests.knows_on();
         let copied = prepare_reply(&mut self.course, &reply)?;
-        self.course.append(Event {
-            rank,
-            call,
-            reply,
-            mate: None,
-        });
+        self.course.append(rank, call, reply, None);
         Ok(Answer::Replied(copied))
     }
 
@@ -487,12 +466,7 @@ impl<'a, P: Program> Machine<'a, P> {
         let at = self.course.history().len();
         match self.requests.start(at, rank, &call)? {
             Started::Made { mate, .. } => {
-                self.course.append(Event {
-                    rank,
-                    call,
-                    reply: Reply::Done,
-                    mate,
-                });
+                self.course.append(rank, call, Reply::Done, mate);
                 Ok(Answer::Replied(Reply::Done))
             }
             Started::Disagrees { .. } => {
@@ -676,7 +650,7 @@ impl<'a, P: Program> Machine<'a, P> {
     /// The events so far: a run of the program. Takes no memory.
     pub fn history(&self) -> &History
         ensures events { result.now.events ≡ self.now.events }
-        ensures run { IsRun (P.next self.now.program) self.now.ranks self.now.events }
+        ensures run { IsPromptRun (P.next self.now.program) self.now.ranks self.now.events }
     {
         self.course.history()
     }
@@ -747,11 +721,6 @@ fn took(
         requests.untake(rank, &starts, &items);
         return Err(AllocError);
     };
-    course.append(Event {
-        rank,
-        call: Call::Take { starts, mode },
-        reply: Reply::Took(items),
-        mate: None,
-    });
+    course.append(rank, Call::Take { starts, mode }, Reply::Took(items), None);
     Ok(Reply::Took(copied))
 }

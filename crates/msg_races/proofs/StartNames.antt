@@ -1,5 +1,5 @@
 -- The names of the starts of a rank, by their positions.
-use Rattle.std.proofs.Common.{◌≡◌, ◌+◌, ◌++◌, ◌==◌, ◌∷◌, [], ℕ, suc, List, Option, Some, true, false, inl, inr, ap, append_assoc, length, length-append, slice_get, subst, sym, take, ◌∙◌, refl}
+use Rattle.std.proofs.Common.{◌≡◌, ◌+◌, ◌++◌, ◌==◌, ◌∷◌, [], ℕ, List, Option, Some, true, false, inl, inr, ap, append_assoc, length, length-append, slice_get, subst, sym, take, ◌∙◌, refl}
 use Rattle.std.proofs.lemmas.Bool.{and_from, and_parts, eq-eqb, eqb-true}
 use Rattle.std.proofs.Math.Seq.{take-append_seam}
 use Rattle.mpi_call.specs.Lists.{count_below}
@@ -10,23 +10,8 @@ use Rattle.run_model.proofs.Positions.{name_parts}
 use Rattle.run_model.proofs.StartLemmas.{starts_of-append}
 use Rattle.run_model.proofs.Views.{test_cases, view_of-append}
 use Rattle.causes.specs.Positions.{is_start_of, positions}
+use Rattle.causes.proofs.PartnerLemmas.{starts_from}
 use Rattle.causes.proofs.PositionLemmas.{count_below-positions, positions-push}
-
--- a rank has as many positions of starts as starts
-starts_from : (rank from : ℕ) (events : List Event) → length (positions (is_start_of rank) from events) ≡ length (starts_of (view_of events rank))
-starts_from rank from [] = refl
-starts_from rank from (x ∷ xs) =
-    let rest = starts_from rank (from + 1) xs in
-    elim (test_cases (x.rank == rank)) [
-      | inl own ↦ elim (test_cases (is_start (x.call, x.reply))) [
-        | inl s ↦ rw (own, s) (ap suc rest)
-        | inr s ↦ rw (own, s) rest
-      ]
-      | inr own ↦ elim (test_cases (is_start (x.call, x.reply))) [
-        | inl s ↦ rw (own, s) rest
-        | inr s ↦ rw (own, s) rest
-      ]
-    ]
 
 -- a start by its event
 pub name_there : (events : List Event) (rank at : ℕ) (event : Event) → slice_get events at ≡ Some event → is_start_of rank event ≡ true

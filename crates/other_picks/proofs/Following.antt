@@ -83,7 +83,11 @@ start_done event start = done_is event.reply (and_parts (is_starting event.call)
 
 -- a start with its own mate is the event
 abbrev event_with : Event → Reply → Option ℕ → Event
-event_with event reply mate = record { rank = event.rank; call = event.call; reply = reply; mate = mate }
+event_with event reply mate = record { rank = event.rank; call = event.call; reply = reply; mate = mate; met = [] }
+
+-- nothing meets after an event that a pick makes
+pub none_met : (n : ℕ) (before : List Event) (event : Event) → IsEventOf n before event → event.met ≡ []
+none_met n before event is = ap (λ (e : Event). e.met) is.picked.event_is
 
 -- ---- events that start no message
 
@@ -109,7 +113,7 @@ no_message call send post = refl
 -- no start
 pub idle_other : (n : ℕ) (before : List Event) (event : Event) → IsEventOf n before event → is_start (event.call, event.reply) ≡ false
     → (is_message event.call && is_done event.reply) ≡ false → IsNoMessageStart event
-idle_other n before event is idle no_message = record { other = no_message; alone = idle_mate n before event is.pick is.picked idle }
+idle_other n before event is idle no_message = record { other = no_message; alone = idle_mate n before event is.pick is.picked idle; none_met = none_met n before event is }
 
 -- a start of no message
 pub enter_other : (n : ℕ) (before : List Event) (event : Event) → IsEventOf n before event → is_start (event.call, event.reply) ≡ true → is_message event.call ≡ false
@@ -118,6 +122,7 @@ enter_other n before event is start apart = record {
   other = rw apart;
   alone = start_mate n before event is.pick is.picked start
       ∙ other_starts event.call (and_parts (is_starting event.call) (is_done event.reply) start).0 apart before event.rank is.pick;
+  none_met = none_met n before event is;
 }
 
 message_idle : (call : Call) (reply : Reply) → is_start (call, reply) ≡ false → (is_message call && is_done reply) ≡ false
@@ -137,19 +142,20 @@ send_choice before rank (Send comm dest tag ints sync) (Index index) h = refl
 send_choice before rank call pick h = absurd (cc)
 
 -- what is known with a start's choice is known with the event, whose mate is that choice
-known_with : (before : List Event) (event : Event) (mate : Option ℕ) (starts : List UnpairedStart) → event.reply ≡ Done → event.mate ≡ mate
+known_with : (before : List Event) (event : Event) (mate : Option ℕ) (starts : List UnpairedStart) → event.reply ≡ Done → event.met ≡ [] → event.mate ≡ mate
     → KnowsUnpaired (before ++ new_start_event event.rank event.call mate ∷ []) starts → KnowsUnpaired (before ++ event ∷ []) starts
-known_with before event mate starts done same knows =
+known_with before event mate starts done alone same knows =
     let with_mate : new_start_event event.rank event.call mate ≡ new_start_event event.rank event.call event.mate = ap (new_start_event event.rank event.call) (sym same) in
     let with_reply : event_with event Done event.mate ≡ event_with event event.reply event.mate = ap (λ r. event_with event r event.mate) (sym done) in
-    let is : new_start_event event.rank event.call mate ≡ event = with_mate ∙ with_reply in
+    let with_none : event_with event event.reply event.mate ≡ event = ap (λ (l : List (Name × Name)). record { rank = event.rank; call = event.call; reply = event.reply; mate = event.mate; met = l }) (sym alone) in
+    let is : new_start_event event.rank event.call mate ≡ event = with_mate ∙ (with_reply ∙ with_none) in
     let F : Event → Type 0 = λ e. KnowsUnpaired (before ++ e ∷ []) starts in
     subst F is knows
 
 pub known_send : (n : ℕ) (before : List Event) (event : Event) (mate : Option ℕ) (starts : List UnpairedStart) → IsEventOf n before event → is_start (event.call, event.reply) ≡ true
     → is_send event.call ≡ true → KnowsMore before (new_start_event event.rank event.call mate) starts → KnowsUnpaired (before ++ event ∷ []) starts
 known_send n before event mate starts is start send more =
-    known_with before event mate starts (start_done event start)
+    known_with before event mate starts (start_done event start) (none_met n before event is)
     (start_mate n before event is.pick is.picked start ∙ (send_choice before event.rank event.call is.pick send ∙ choice_same before event.rank event.call mate more.choice))
     more.knows
 
@@ -176,7 +182,7 @@ pub known_post : (n : ℕ) (before : List Event) (event : Event) (mate : Option 
     → is_post event.call ≡ true → event.mate ≡ None → KnowsMore before (new_start_event event.rank event.call mate) starts → KnowsUnpaired (before ++ event ∷ []) starts
 known_post n before event mate starts is start post alone more =
     let picked : picked_choice before event.rank event.call is.pick ≡ None = sym (start_mate n before event is.pick is.picked start) ∙ alone in
-    known_with before event mate starts (start_done event start)
+    known_with before event mate starts (start_done event start) (none_met n before event is)
     (alone ∙ (sym (post_none n before event.rank event.call is.pick post is.picked.offered picked) ∙ choice_same before event.rank event.call mate more.choice))
     more.knows
 
@@ -246,4 +252,4 @@ known_paired n before event at (Some other) starts is start post mate knows =
     let picked = sym (start_mate n before event is.pick is.picked start) ∙ mate in
     let one = sender_choice before event.rank event.call at looked (first_of before event.rank event.call is.pick at looked picked) in
     let found = choice_same before event.rank (call_from (rank_of_event (slice_get before at)) event.call) (Some other) knows.choice in
-    known_with before event (Some other) starts (start_done event start) (mate ∙ (sym one ∙ found)) knows.knows
+    known_with before event (Some other) starts (start_done event start) (none_met n before event is) (mate ∙ (sym one ∙ found)) knows.knows

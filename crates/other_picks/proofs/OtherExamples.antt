@@ -11,7 +11,7 @@ use Rattle.other_picks.specs.OtherLaws.{turns_to}
 use Rattle.other_picks.specs.Others.{others_of}
 
 abbrev send : ℕ → ℕ → Event
-send rank tag = record { rank = rank; call = Send 0 3 tag [] false; reply = Done; mate = None }
+send rank tag = record { rank = rank; call = Send 0 3 tag [] false; reply = Done; mate = None; met = [] }
 
 abbrev pick : ℕ → ℕ → ℕ → OtherPick
 pick at start sender = record { at = at; rank = 3; start = start; sender = sender }
@@ -19,8 +19,8 @@ pick at start sender = record { at = at; rank = 3; start = start; sender = sende
 -- three ranks send to rank 3, and it receives twice from any source
 abbrev twice : List Event
 twice =
-    send 0 1 ∷ send 1 1 ∷ send 2 1 ∷ (record { rank = 3; call = Post 0 Any AnyTag 1; reply = Done; mate = Some 0 })
-    ∷ (record { rank = 3; call = Post 0 Any AnyTag 1; reply = Done; mate = Some 2 }) ∷ []
+    send 0 1 ∷ send 1 1 ∷ send 2 1 ∷ (record { rank = 3; call = Post 0 Any AnyTag 1; reply = Done; mate = Some 0; met = [] })
+    ∷ (record { rank = 3; call = Post 0 Any AnyTag 1; reply = Done; mate = Some 2; met = [] }) ∷ []
 
 -- the first receive could have taken the message of 1 or of 2, and the second one that of 1, which is there still
 both_told : others_of 4 twice ≡ pick 3 0 1 ∷ pick 3 0 2 ∷ pick 4 1 1 ∷ []
@@ -34,21 +34,21 @@ its_turns = refl
 
 -- a message with another tag, and a second one of the sender that was taken, are no others
 abbrev by_tag : List Event
-by_tag = send 0 1 ∷ send 0 1 ∷ send 1 2 ∷ (record { rank = 3; call = Post 0 Any (Is 1) 1; reply = Done; mate = Some 0 }) ∷ []
+by_tag = send 0 1 ∷ send 0 1 ∷ send 1 2 ∷ (record { rank = 3; call = Post 0 Any (Is 1) 1; reply = Done; mate = Some 0; met = [] }) ∷ []
 
 none_by_tag : others_of 4 by_tag ≡ []
 none_by_tag = refl
 
 -- nor is there another pick where a receive names its source, or came before its message
 abbrev named : List Event
-named = send 0 1 ∷ send 1 1 ∷ (record { rank = 3; call = Post 0 (From 1) AnyTag 1; reply = Done; mate = Some 1 }) ∷ []
+named = send 0 1 ∷ send 1 1 ∷ (record { rank = 3; call = Post 0 (From 1) AnyTag 1; reply = Done; mate = Some 1; met = [] }) ∷ []
 
 none_named : others_of 4 named ≡ []
 none_named = refl
 
 abbrev early : List Event
 early =
-    (record { rank = 3; call = Post 0 Any AnyTag 1; reply = Done; mate = None }) ∷ (record { rank = 0; call = Send 0 3 1 [] false; reply = Done; mate = Some 0 })
+    (record { rank = 3; call = Post 0 Any AnyTag 1; reply = Done; mate = None; met = [] }) ∷ (record { rank = 0; call = Send 0 3 1 [] false; reply = Done; mate = Some 0; met = [] })
     ∷ send 1 1 ∷ []
 
 none_early : others_of 4 early ≡ []

@@ -18,7 +18,7 @@ use Rattle.run_model.specs.Lists.{IsPrefixOf, world}
 use Rattle.run_model.specs.MachineLaws.{has_stuck, is_stuck_reply}
 use Rattle.run_model.specs.Views.{Next, is_start, view_of, rank_of_event}
 use Rattle.run_model.proofs.Choosing.{choice_some}
-use Rattle.run_model.proofs.RunLaws.{IsRun-event, IsRun-front}
+use Rattle.run_model.proofs.Prompt.{IsPromptRun-event, IsPromptRun-front}
 use Rattle.match_core.specs.Starts.{is_post}
 use Rattle.picked_runs.specs.declared.turn.Pick.{Pick}
 use Rattle.picked_runs.specs.declared.turn.Pick.TheVariants.{Sender}
@@ -183,7 +183,7 @@ picked_front n before [] ys picks all = tt
 picked_front n before (x ∷ xs) ys picks all = (all.0, picked_front n (before ++ x ∷ []) xs ys (later_picks picks) all.1)
 
 is_picked_front : (next : Next) (n : ℕ) (picks : List Pick) (xs ys : List Event) → IsPicked next n picks (xs ++ ys) → IsPicked next n picks xs
-is_picked_front next n picks xs ys is = record { run = IsRun-front next n xs ys is.run; along = picked_front n [] xs ys picks is.along }
+is_picked_front next n picks xs ys is = record { run = IsPromptRun-front next n xs ys is.run; along = picked_front n [] xs ys picks is.along }
 
 -- of a run in two parts
 taken_at : (next : Next) (n : ℕ) (picks : List Pick) (front after : List Event) (receive : Event) (other : OtherPick) → OtherPickIsTaken next n
@@ -191,7 +191,7 @@ taken_at : (next : Next) (n : ℕ) (picks : List Pick) (front after : List Event
     → IsTakenOtherwise next n picks (front ++ receive ∷ after) (other_of front receive o.sender)
 taken_at next n picks front after receive other law is o =
     let turn : Turn = record { rank = receive.rank; pick = Sender o.sender } in
-    let event = IsRun-event next n front after receive is.run in
+    let event = IsPromptRun-event next n front after receive is.run in
     let parts = and_parts (not (o.sender == rank_of_event (slice_get front o.mate))) (has_pick n front receive.rank receive.call (Sender o.sender)) o.could in
     let there = pick_there n front receive.rank receive.call (Sender o.sender) (λ e. cc) parts.1 in
     let free : has_stuck front ≡ false =
@@ -227,7 +227,7 @@ turns_at : (next : Next) (n : ℕ) (picks : List Pick) (front after : List Event
     → AllByRecursion (IsTurnOf n) (turns_to (front ++ receive ∷ after) picks (other_of front receive o.sender))
 turns_at next n picks front after receive other law is o =
     let turn : Turn = record { rank = receive.rank; pick = Sender o.sender } in
-    let event = IsRun-event next n front after receive is.run in
+    let event = IsPromptRun-event next n front after receive is.run in
     let seam : take (length front) (front ++ receive ∷ after) ≡ front = take-append_seam front (receive ∷ after) in
     let A : List Event → Type 0 = λ l. AllByRecursion (IsTurnOf n) (turns_of (order_of l) picks ++ turn ∷ []) in
     subst A (sym seam)

@@ -11,19 +11,19 @@ use Rattle.mpi_call.specs.declared.reply.Item.{Item}
 use Rattle.mpi_call.specs.declared.reply.Reply.{Reply}
 use Rattle.mpi_call.specs.Calls.{listed_by}
 use Rattle.run_model.specs.declared.event.Event.{Event}
-use Rattle.run_model.specs.Allowed.{AreChosen, IsAllowed, IsAllowedBy, IsAnswer, IsPeekAnswer, IsPeeked, IsStuck, IsTakeAnswer, IsCompletionReply, can_go, first_long, flags_of, has_open, mode_holds, is_prompt, probe_of, taken_reply}
+use Rattle.run_model.specs.Allowed.{AreChosen, IsPrompt, IsAllowedBy, IsAnswer, IsPeekAnswer, IsPeeked, IsStuck, IsTakeAnswer, IsCompletionReply, can_go, first_long, flags_of, has_open, mode_holds, is_prompt, probe_of, taken_reply}
 use Rattle.run_model.specs.Choice.{choice}
 use Rattle.run_model.specs.Chosen.{halt_or, held_reply, items_at, peek_reply}
 use Rattle.run_model.specs.Due.{due}
-use Rattle.run_model.specs.Pairs.{IsMatched}
+use Rattle.run_model.specs.Pairs.{IsAllMatched}
 use Rattle.run_model.specs.Readiness.{is_ready}
-use Rattle.run_model.specs.Run.{IsEvent, IsRun}
+use Rattle.run_model.specs.Run.{IsPromptEvent, IsPromptRun}
 use Rattle.run_model.specs.Shape.{is_test}
 use Rattle.run_model.specs.Views.{Next, View, moment_at, moment_of, start_at, view_of}
 use Rattle.run_model.proofs.Along.{Along-keeps}
 use Rattle.run_model.proofs.ChosenAnswers.{GoesOr, reply_allowed}
 use Rattle.run_model.proofs.ChosenGots.{got_is}
-use Rattle.run_model.proofs.Matched.{none_matched}
+use Rattle.run_model.proofs.Prompt.{none_waits}
 use Rattle.run_model.proofs.Origins.{AllBelow, AllBelow-more}
 use Rattle.run_model.proofs.Views.{option_cases}
 use Rattle.picked_runs.specs.declared.turn.Pick.{Pick}
@@ -86,7 +86,7 @@ sender_fine stuck n before me (Peek comm source tag wait) sender at all h found 
 sender_fine stuck n before me call sender at all h found = absurd (cc)
 
 -- a completion of one start that picks an index
-one_answer : (stuck : Type 0) (n : ℕ) (before : List Event) (me : ℕ) (starts : List ℕ) (mode : TakeMode) (index : ℕ) → IsMatched before
+one_answer : (stuck : Type 0) (n : ℕ) (before : List Event) (me : ℕ) (starts : List ℕ) (mode : TakeMode) (index : ℕ) → IsAllMatched before
     → picked_places mode (flags_of (moment_at n before me) starts) (Index index) ≡ index ∷ []
     → AreChosen mode (flags_of (moment_at n before me) starts) (index ∷ [])
     → mode_holds mode (flags_of (moment_at n before me) starts) ≡ true
@@ -112,7 +112,7 @@ one_answer stuck n before me starts mode index matched places chosen h flag =
     let G : List ℕ → Type 0 = λ l. IsTakeAnswer (mode_holds mode flags) stuck (moment_of n before me own) starts mode (R l (mode_holds mode flags)) in
     subst G (sym places) (subst F (sym h) taken)
 
-index_fine : (stuck : Type 0) (n : ℕ) (before : List Event) (me : ℕ) (call : Call) (index : ℕ) → IsMatched before → completes_one call ≡ true
+index_fine : (stuck : Type 0) (n : ℕ) (before : List Event) (me : ℕ) (call : Call) (index : ℕ) → IsAllMatched before → completes_one call ≡ true
     → slice_get (flags_of (moment_at n before me) (listed_by call)) index ≡ Some true → IsFine stuck n before me call (Index index)
 index_fine stuck n before me (Take starts AnyOne) index matched h flag =
     let flags : List Bool = flags_of (moment_at n before me) starts in
@@ -124,7 +124,7 @@ index_fine stuck n before me (Take starts TestAny) index matched h flag =
     record { answer = one_answer stuck n before me starts TestAny index matched refl (index, refl, flag) any flag; prompt = refl }
 index_fine stuck n before me call index matched h flag = absurd (cc)
 
-pick_fine : (stuck : Type 0) (n : ℕ) (before : List Event) (me : ℕ) (call : Call) (pick : Pick) → IsMatched before → AllBelow n before → pick ≢ First
+pick_fine : (stuck : Type 0) (n : ℕ) (before : List Event) (me : ℕ) (call : Call) (pick : Pick) → IsAllMatched before → AllBelow n before → pick ≢ First
     → is_offered n before me (view_of before me) call pick ≡ true → IsFine stuck n before me call pick
 pick_fine stuck n before me call First matched all apart h = absurd (apart refl)
 pick_fine stuck n before me call (Sender sender) matched all apart h =
@@ -136,8 +136,8 @@ pick_fine stuck n before me call (Index index) matched all apart h =
     let parts = and_parts (completes_one call) (is_ready_at flags index) h in
     index_fine stuck n before me call index matched parts.0 (ready_there flags index parts.1)
 
-pick_allowed : (next : Next) (n : ℕ) (before : List Event) (me : ℕ) (call : Call) (pick : Pick) → IsMatched before → AllBelow n before → pick ≢ First
-    → has_pick n before me call pick ≡ true → IsAllowed next n before me call (picked_reply n before me call pick)
+pick_allowed : (next : Next) (n : ℕ) (before : List Event) (me : ℕ) (call : Call) (pick : Pick) → IsAllMatched before → AllBelow n before → pick ≢ First
+    → has_pick n before me call pick ≡ true → IsPrompt next n before me call (picked_reply n before me call pick)
 pick_allowed next n before me call pick matched all apart h =
     let own : View = view_of before me in
     let there = pick_there n before me call pick apart h in
@@ -145,16 +145,16 @@ pick_allowed next n before me call pick matched all apart h =
     let F : Option Halt → Type 0 = λ o. IsAllowedBy o (IsStuck next n before) (moment_of n before me own) call (halt_or o (picked_answer n before me own call pick)) in
     subst F (sym there.none) fine.answer
 
-first_allowed : (next : Next) (n : ℕ) (before : List Event) (me : ℕ) (call : Call) → IsMatched before → AllBelow n before
-    → GoesOr (can_go n before me (view_of before me) call) (IsStuck next n before) → IsAllowed next n before me call (picked_reply n before me call First)
+first_allowed : (next : Next) (n : ℕ) (before : List Event) (me : ℕ) (call : Call) → IsAllMatched before → AllBelow n before
+    → GoesOr (can_go n before me (view_of before me) call) (IsStuck next n before) → IsPrompt next n before me call (picked_reply n before me call First)
 first_allowed next n before me call matched all goes =
     let own : View = view_of before me in
-    let F : Reply → Type 0 = λ r. IsAllowed next n before me call (halt_or (due n before me own call) r) in
+    let F : Reply → Type 0 = λ r. IsPrompt next n before me call (halt_or (due n before me own call) r) in
     subst F (sym (first_answer n before me own call)) (reply_allowed next n before me call matched all goes)
 
-pub picked_allowed : (next : Next) (n : ℕ) (before : List Event) (me : ℕ) (call : Call) (pick : Pick) → IsMatched before → AllBelow n before
+pub picked_allowed : (next : Next) (n : ℕ) (before : List Event) (me : ℕ) (call : Call) (pick : Pick) → IsAllMatched before → AllBelow n before
     → GoesOr (can_go n before me (view_of before me) call) (IsStuck next n before) → has_pick n before me call pick ≡ true
-    → IsAllowed next n before me call (picked_reply n before me call pick)
+    → IsPrompt next n before me call (picked_reply n before me call pick)
 picked_allowed next n before me call First matched all goes h = first_allowed next n before me call matched all goes
 picked_allowed next n before me call (Sender sender) matched all goes h = pick_allowed next n before me call (Sender sender) matched all (λ e. (let no : Sender sender ≡ First = e in cc)) h
 picked_allowed next n before me call (Index index) matched all goes h = pick_allowed next n before me call (Index index) matched all (λ e. (let no : Index index ≡ First = e in cc)) h
@@ -162,14 +162,14 @@ picked_allowed next n before me call (Index index) matched all goes h = pick_all
 -- the ranks of a run are below n, and its pairs meet their conditions
 pub record IsFounded (n : ℕ) (before : List Event) : Type 0 where
   pub below : AllBelow n before
-  pub matched : IsMatched before
+  pub matched : IsAllMatched before
 
-founded_more : (next : Next) (n : ℕ) (before : List Event) (event : Event) → IsFounded n before → IsEvent next n before event → IsFounded n (before ++ event ∷ [])
+founded_more : (next : Next) (n : ℕ) (before : List Event) (event : Event) → IsFounded n before → IsPromptEvent next n before event → IsFounded n (before ++ event ∷ [])
 founded_more next n before event is step = record { below = AllBelow-more n before event is.below step.rank; matched = step.matched }
 
-pub founded : (next : Next) (n : ℕ) (run : List Event) → IsRun next n run → IsFounded n run
+pub founded : (next : Next) (n : ℕ) (run : List Event) → IsPromptRun next n run → IsFounded n run
 founded next n run is =
-    Along-keeps (IsEvent next n) (IsFounded n) (founded_more next n) [] run (record { below = record { empty = λ rank above. refl }; matched = none_matched }) is.along
+    Along-keeps (IsPromptEvent next n) (IsFounded n) (founded_more next n) [] run (record { below = record { empty = λ rank above. refl }; matched = none_waits }) is.along
 
 pub picks_can_go : (next : Next) (n : ℕ) → PicksCanGo next n
 picks_can_go next n picks before rank call pick p apart h =

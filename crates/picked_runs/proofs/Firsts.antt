@@ -45,7 +45,7 @@ first_answer n before me own End = refl
 
 pub first_event : (n : ℕ) (before : List Event) (me : ℕ) (call : Call) → picked_event n before me call First ≡ chosen_event n before me call
 first_event n before me call =
-    let E : Reply → Event = λ r. record { rank = me; call = call; reply = r; mate = chosen_mate before me call r } in
+    let E : Reply → Event = λ r. record { rank = me; call = call; reply = r; mate = chosen_mate before me call r; met = [] } in
     ap (λ a. E (halt_or (due n before me (view_of before me) call) a)) (first_answer n before me (view_of before me) call)
 
 chosen_along : (n : ℕ) (before events : List Event) → ArePicked n before [] events → Along (IsChosenEvent n) before events

@@ -10,10 +10,10 @@ use Rattle.run_model.specs.Allowed.{IsAllowedBy, IsStuck}
 use Rattle.run_model.specs.Chosen.{halt_or}
 use Rattle.run_model.specs.Due.{due}
 use Rattle.run_model.specs.Lists.{Along}
-use Rattle.run_model.specs.Pairs.{IsMatched}
-use Rattle.run_model.specs.Run.{IsEvent}
+use Rattle.run_model.specs.Pairs.{IsAllMatched, Name}
+use Rattle.run_model.specs.Run.{IsPromptEvent}
 use Rattle.run_model.specs.Views.{Next, is_start, moment_of, view_of}
-use Rattle.run_model.proofs.Matched.{none_matched}
+use Rattle.run_model.proofs.Prompt.{none_waits}
 use Rattle.run_model.proofs.Origins.{AllBelow, AllBelow-more}
 use Rattle.run_model.proofs.Views.{option_cases, test_cases}
 use Rattle.picked_runs.specs.declared.turn.Pick.{Pick}
@@ -27,7 +27,11 @@ use Rattle.picked_runs.proofs.Answers.{answer_picked}
 use Rattle.picked_runs.proofs.Mates.{mate_idle, mate_picked}
 
 abbrev pub event_with : ℕ → Call → Reply → Option ℕ → Event
-event_with rank call reply mate = record { rank = rank; call = call; reply = reply; mate = mate }
+event_with rank call reply mate = record { rank = rank; call = call; reply = reply; mate = mate; met = [] }
+
+-- an event after which nothing meets
+pub whole : (event : Event) → event.met ≡ [] → event ≡ event_with event.rank event.call event.reply event.mate
+whole event alone = ap (λ (l : List (Name × Name)). record { rank = event.rank; call = event.call; reply = event.reply; mate = event.mate; met = l }) alone
 
 -- an event with the reply and the mate of what it picks is the picked event
 pub event_is : (n : ℕ) (before : List Event) (rank : ℕ) (call : Call) (pick : Pick) (reply : Reply) (mate : Option ℕ) → picked_reply n before rank call pick ≡ reply
@@ -61,16 +65,16 @@ and_no false = refl
 
 -- where a halt is due
 halt_picked : (n : ℕ) (before : List Event) (event : Event) (halt : Halt) → due n before event.rank (view_of before event.rank) event.call ≡ Some halt
-    → event.reply ≡ Stopped halt → event.mate ≡ None → IsPickedEvent n before event First
-halt_picked n before event halt h reply mate =
+    → event.reply ≡ Stopped halt → event.mate ≡ None → event.met ≡ [] → IsPickedEvent n before event First
+halt_picked n before event halt h reply mate alone =
     let own = view_of before event.rank in
     let r : picked_reply n before event.rank event.call First ≡ event.reply =
     ap (λ o. halt_or o (picked_answer n before event.rank own event.call First)) h ∙ sym reply in
     let idle : is_start (event.call, event.reply) ≡ false = rw reply (and_no (is_starting event.call)) in
     let m : picked_mate before event.rank event.call event.reply First ≡ event.mate = rw idle (sym mate) in
-    record { offered = refl; event_is = sym (event_is n before event.rank event.call First event.reply event.mate r m) }
+    record { offered = refl; event_is = whole event alone ∙ sym (event_is n before event.rank event.call First event.reply event.mate r m) }
 
-pub event_picked : (next : Next) (n : ℕ) (before : List Event) (event : Event) → IsMatched before → AllBelow n before → IsEvent next n before event
+pub event_picked : (next : Next) (n : ℕ) (before : List Event) (event : Event) → IsAllMatched before → AllBelow n before → IsPromptEvent next n before event
     → IsNumberedInOrder n before event → IsPickedEvent n before event (pick_of n before event)
 event_picked next n before event matched all step ordered =
     let own = view_of before event.rank in
@@ -83,18 +87,18 @@ event_picked next n before event matched all step ordered =
       | inl some ↦
           let stopped : reply ≡ Stopped some.0 = subst F some.1 step.reply in
           let idle : is_start (call, reply) ≡ false = rw stopped (and_no (is_starting call)) in
-          subst G (sym some.1) (halt_picked n before event some.0 some.1 stopped (mate_idle before event step.mate idle))
+          subst G (sym some.1) (halt_picked n before event some.0 some.1 stopped (mate_idle before event step.mate idle) step.alone)
       | inr none ↦
           let p = answer_picked (IsStuck next n before) n before event.rank call reply event.mate all (subst F none step.reply) ordered (mate_picked next n before event matched step) in
           let r : picked_reply n before event.rank call P ≡ reply = ap (λ o. halt_or o (picked_answer n before event.rank own call P)) none ∙ sym p.reply_is in
           let m : picked_mate before event.rank call reply P ≡ event.mate = mate_by before event P (mate_picked next n before event matched step) (mate_idle before event step.mate) in
           subst G (sym none) (record {
             offered = has_it n before event.rank call P none p.offered;
-            event_is = sym (event_is n before event.rank call P reply event.mate r m);
+            event_is = whole event step.alone ∙ sym (event_is n before event.rank call P reply event.mate r m);
           })
     ]
 
-all_picked : (next : Next) (n : ℕ) (before events : List Event) → IsMatched before → AllBelow n before → Along (IsEvent next n) before events
+all_picked : (next : Next) (n : ℕ) (before events : List Event) → IsAllMatched before → AllBelow n before → Along (IsPromptEvent next n) before events
     → Along (IsNumberedInOrder n) before events → ArePicked n before (picks_from n before events) events
 all_picked next n before [] matched all run ordered = tt
 all_picked next n before (event ∷ events) matched all run ordered = (
@@ -104,4 +108,4 @@ all_picked next n before (event ∷ events) matched all run ordered = (
 
 pub every_run_is_picked : (next : Next) (n : ℕ) → EveryRunIsPicked next n
 every_run_is_picked next n run is ordered =
-    record { run = is; along = all_picked next n [] run none_matched (record { empty = λ rank above. refl }) is.along ordered }
+    record { run = is; along = all_picked next n [] run none_waits (record { empty = λ rank above. refl }) is.along ordered }

@@ -7,12 +7,13 @@ use Rattle.run_model.specs.Allowed.{can_go}
 use Rattle.run_model.specs.Chosen.{chosen_event, order_of}
 use Rattle.run_model.specs.Lists.{Along, IsPrefixOf, world}
 use Rattle.run_model.specs.MachineLaws.{has_stuck, is_stuck_reply}
-use Rattle.run_model.specs.Run.{IsEvent}
+use Rattle.run_model.specs.Run.{IsPromptEvent}
 use Rattle.run_model.specs.Serial.{Stage, with_chosen_event, first_stage, attempt, attempt_with, attempts, call_after, is_stuck, others_wait, rounds}
 use Rattle.run_model.specs.Views.{Next, view_of}
 use Rattle.run_model.proofs.ChosenLaws.{cannot_go}
 use Rattle.run_model.proofs.Prefixes.{prefix_append, prefix_refl, prefix_trans}
-use Rattle.run_model.proofs.RunLaws.{Lawful, kept_run}
+use Rattle.run_model.proofs.Prompt.{kept_prompt}
+use Rattle.run_model.proofs.RunLaws.{Lawful}
 use Rattle.run_model.proofs.Views.{test_cases}
 use Rattle.picked_runs.specs.declared.turn.Pick.{Pick}
 use Rattle.picked_runs.specs.declared.turn.Pick.TheVariants.{First, Sender, Index}
@@ -87,7 +88,7 @@ turns_fix_run next n turns one other s t =
 -- by the first law of programs
 pub turns_end : (next : Next) (n : ℕ) → Lawful next → TurnsEnd next n
 turns_end next n lawful turns events s run rank below =
-    let kept = kept_run next n events lawful run in
+    let kept = kept_prompt next n events lawful run in
     (lawful.ends n rank (view_of events rank) (run.some, run.few, below) (kept.came rank below)).0 (s.ended rank below)
 
 -- a turn whose pick can be made and whose call can go
@@ -102,7 +103,7 @@ turned next n stage rank call (Sender sender) offered goes = rw offered
 turned next n stage rank call (Index index) offered goes = rw offered
 
 -- turns by the order and the picks of a run make it again
-follow : (next : Next) (n : ℕ) (before run : List Event) (picks : List Pick) (waiting : List ℕ) → Along (IsEvent next n) before run → ArePicked n before picks run
+follow : (next : Next) (n : ℕ) (before run : List Event) (picks : List Pick) (waiting : List ℕ) → Along (IsPromptEvent next n) before run → ArePicked n before picks run
     → has_stuck run ≡ false
     → (take_turns next n (record { events = before; waiting = waiting }) (turns_of (order_of run) picks)).events ≡ before ++ run
 follow next n before [] picks waiting events picked free = sym (append-nil before)

@@ -6,8 +6,8 @@ use Rattle.run_model.specs.declared.event.Event.{Event}
 use Rattle.run_model.specs.Lists.{IsPrefixOf}
 use Rattle.run_model.specs.Program.{ends}
 use Rattle.run_model.specs.Allowed.{IsStuck, can_go}
-use Rattle.run_model.specs.Pairs.{IsMatched}
-use Rattle.run_model.specs.Run.{IsRun}
+use Rattle.run_model.specs.Pairs.{IsAllMatched}
+use Rattle.run_model.specs.Run.{IsPromptRun}
 use Rattle.run_model.specs.Views.{Next, replies_in, view_of}
 use Rattle.run_model.specs.Chosen.{IsChosen, order_of}
 use Rattle.run_model.specs.MachineLaws.{has_stuck}
@@ -23,7 +23,7 @@ use Rattle.picked_runs.specs.Numbering.{AreNumberedInOrder}
 
 -- every run that the matching rules allow is made by what it picked
 abbrev pub EveryRunIsPicked : Next → ℕ → Type 0
-EveryRunIsPicked next n = (run : List Event) → IsRun next n run → AreNumberedInOrder n run → IsPicked next n (picks_of n run) run
+EveryRunIsPicked next n = (run : List Event) → IsPromptRun next n run → AreNumberedInOrder n run → IsPicked next n (picks_of n run) run
 
 -- two runs of one order, made by the same picks, are the same
 abbrev pub PicksFixRun : Next → ℕ → Type 0
@@ -37,7 +37,7 @@ TurnsFixRun next n = (turns : List Turn) (one other : List Event) → IsRunByTur
 -- in it each rank has ended
 abbrev pub TurnsEnd : Next → ℕ → Type 0
 TurnsEnd next n =
-    (turns : List Turn) (events : List Event) → IsRunByTurns next n turns events → IsRun next n events
+    (turns : List Turn) (events : List Event) → IsRunByTurns next n turns events → IsPromptRun next n events
     → (rank : ℕ) → rank < n → list_any ends (view_of events rank) ≡ true
 
 -- a run that picks make, without a Stuck reply, begins the run of its order and picks as turns
@@ -49,7 +49,7 @@ PicksBeginRun next n =
 -- so every run that the matching rules allow, without a Stuck reply, is recorded by some turns: those of its order and of what it picked
 abbrev pub EveryRunIsRecorded : Next → ℕ → Type 0
 EveryRunIsRecorded next n =
-    (run events : List Event) → IsRun next n run → AreNumberedInOrder n run → has_stuck run ≡ false
+    (run events : List Event) → IsPromptRun next n run → AreNumberedInOrder n run → has_stuck run ≡ false
     → IsRunByTurns next n (turns_of (order_of run) (picks_of n run)) events → IsPrefixOf run events
 
 -- with one more event, which picks this: its pick stands behind the others, and where it picks nothing it need not
@@ -64,7 +64,7 @@ PicksGoOn next n =
     (picks : List Pick) (before : List Event) (rank : ℕ) (call : Call) (pick : Pick) → IsPicked next n picks before → rank < n
     → next n rank (replies_in (view_of before rank)) ≡ Some call → has_pick n before rank call pick ≡ true
     → (can_go n before rank (view_of before rank) call ≡ true) ⊎ IsStuck next n before
-    → IsMatched (before ++ picked_event n before rank call pick ∷ [])
+    → IsAllMatched (before ++ picked_event n before rank call pick ∷ [])
     → AreMorePicked next n picks before pick (picked_event n before rank call pick)
 
 -- a call whose pick can be made can go

@@ -1,5 +1,5 @@
 -- What a block's log keeps of pieces.
-use Rattle.std.proofs.Common.{◌≡◌, ◌≤◌, ◌+◌, ◌-◌, ◌∷◌, ◌++◌, ◌∙◌, ◌&&◌, Bool, List, [], ap, arith, false, inl, inr, length, refl, subst, true, ℕ, ℤ}
+use Rattle.std.proofs.Common.{◌≡◌, ◌≤◌, ◌+◌, ◌∷◌, ◌++◌, ◌∙◌, ◌&&◌, Bool, List, [], ap, arith, false, inl, inr, length, refl, subst, true, ℕ, ℤ}
 use Rattle.std.specs.Prelude.{slice_index, sum_by}
 use Rattle.std.proofs.lemmas.List.Sums.{sum_by-cons, sum_by_push}
 use Rattle.std.proofs.lemmas.Bool.{le-ltb}

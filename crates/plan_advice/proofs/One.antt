@@ -1,5 +1,5 @@
 -- There is one advice on a run.
-use Rattle.std.proofs.Common.{◌≡◌, ◌≤◌, ◌+◌, ◌++◌, ◌∷◌, ◌∙◌, ◌⊎◌, List, [], ap, arith, inl, inr, refl, slice_index, subst, suc, sym, zero, ℕ}
+use Rattle.std.proofs.Common.{◌≡◌, ◌≤◌, ◌++◌, ◌∷◌, ◌∙◌, ◌⊎◌, List, [], ap, arith, inl, inr, refl, slice_index, subst, suc, sym, zero, ℕ}
 use Rattle.std.proofs.lemmas.List.{ext_get_or}
 use Rattle.plan_advice.specs.declared.advice.Advice.{Advice}
 use Rattle.plan_advice.specs.Advices.{RunsHaveOneAdvice}

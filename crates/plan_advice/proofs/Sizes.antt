@@ -1,5 +1,5 @@
 -- The log of a group keeps few ints.
-use Rattle.std.proofs.Common.{◌≤◌, ◌<◌, ◌+◌, ◌*◌, ◌^◌, ◌∷◌, ◌++◌, ◌==◌, All, List, [], arith, inl, inr, length, ℕ}
+use Rattle.std.proofs.Common.{◌≤◌, ◌<◌, ◌*◌, ◌^◌, ◌∷◌, ◌++◌, ◌==◌, All, List, [], arith, inl, inr, length, ℕ}
 use Rattle.std.specs.Prelude.{slice_index, sum_by}
 use Rattle.std.proofs.lemmas.List.Sums.{sum_by-cons}
 use Rattle.mpi_call.specs.declared.call.Call.{Call}

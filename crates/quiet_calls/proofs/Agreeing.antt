@@ -13,7 +13,7 @@ use Rattle.run_model.specs.declared.event.Event.{Event}
 use Rattle.run_model.specs.Communicators.{count_on, enter_at, instance_of, is_on}
 use Rattle.run_model.specs.Due.{disagrees, halted, is_mismatched}
 use Rattle.run_model.specs.Lists.{Along, world}
-use Rattle.run_model.specs.Run.{IsEvent}
+use Rattle.run_model.specs.Run.{IsPromptEvent}
 use Rattle.run_model.specs.Views.{Next, View, is_start, starts_of, view_of}
 use Rattle.run_model.proofs.Enters.{enter_back}
 use Rattle.run_model.proofs.Views.{option_cases, test_cases, view_of-mine, view_of-other}
@@ -72,7 +72,7 @@ agreed_stopped n before x halt own call stopped h =
 
 -- 3. behind a halt
 
-pub agreed_tail : (next : Next) (n : ℕ) (halt : Halt) (own : View) (call : Call) (before events : List Event) → Along (IsEvent next n) before events → halted before ≡ Some halt
+pub agreed_tail : (next : Next) (n : ℕ) (halt : Halt) (own : View) (call : Call) (before events : List Event) → Along (IsPromptEvent next n) before events → halted before ≡ Some halt
     → is_mismatched n before own call ≡ false → is_mismatched n (before ++ events) own call ≡ false
 agreed_tail next n halt own call before [] steps h agreed = ap (λ l. is_mismatched n l own call) (append-nil before) ∙ agreed
 agreed_tail next n halt own call before (x ∷ events) steps h agreed =

@@ -63,7 +63,7 @@ enters_stay n before event still comm instance m =
 -- 2. pairs and communicators
 
 pub pair_still : (before : List Event) (event : Event) → IsStill event → pair_of before event ≡ []
-pair_still before event still = rw still.mate refl
+pair_still before event still = rw (still.mate, still.none_met) refl
 
 pub pairs_stay : (before : List Event) (event : Event) → IsStill event → pairs_of (before ++ event ∷ []) ≡ pairs_of before
 pairs_stay before event still =

@@ -17,7 +17,7 @@ use Rattle.run_model.specs.Chosen.{halt_or}
 use Rattle.run_model.specs.Communicators.{Entered, instance_of, is_on}
 use Rattle.run_model.specs.Due.{disagrees, due, halt_at, halted, is_full, is_mismatched}
 use Rattle.run_model.specs.Lists.{world}
-use Rattle.run_model.specs.Pairs.{IsMatched}
+use Rattle.run_model.specs.Pairs.{IsAllMatched}
 use Rattle.run_model.specs.Readiness.{is_ready}
 use Rattle.run_model.specs.Views.{View, is_start, moment_of, start_at, starts_of, view_of}
 use Rattle.run_model.proofs.Numbered.{AllMade}
@@ -44,6 +44,7 @@ calm_event n before me (Post comm (From source) tag room) (Sender sender) h offe
       call = Post comm (From source) tag room;
       reply = picked_reply n before me (Post comm (From source) tag room) First;
       mate = if is_start (Post comm (From source) tag room, picked_reply n before me (Post comm (From source) tag room) First) then choice before me seen else None;
+      met = [];
     } in
     elim (test_cases (source == sender)) [
       | inl t ↦
@@ -113,7 +114,7 @@ calm_prompt n before event me own (Take starts mode) h prompt = absurd (cc)
 calm_prompt n before event me own (Peek comm source tag wait) h prompt = absurd (cc)
 calm_prompt n before event me own call h prompt = refl
 
-calm_answer : (n : ℕ) (before : List Event) (event : Event) (me : ℕ) (call : Call) → is_racy call ≡ false → IsMatched before → AllMade n before
+calm_answer : (n : ℕ) (before : List Event) (event : Event) (me : ℕ) (call : Call) → is_racy call ≡ false → IsAllMatched before → AllMade n before
     → is_prompt n before me (view_of before me) call ≡ true → picked_answer n (before ++ event ∷ []) me (view_of before me) call First ≡ picked_answer n before me (view_of before me) call First
 calm_answer n before event me (Take starts All) h matched made prompt = all_on n before event me starts false matched made prompt
 calm_answer n before event me (Take starts mode) h matched made prompt = absurd (cc)
@@ -124,7 +125,7 @@ pub record IsCalmly (n : ℕ) (before : List Event) (event : Event) (me : ℕ) (
   pub reply : picked_reply n (before ++ event ∷ []) me call First ≡ picked_reply n before me call First
   pub goes : can_go n (before ++ event ∷ []) me (view_of (before ++ event ∷ []) me) call ≡ true
 
-pub calmly : (n : ℕ) (before : List Event) (event : Event) (me : ℕ) (call : Call) → is_racy call ≡ false → IsMatched before → AllMade n before
+pub calmly : (n : ℕ) (before : List Event) (event : Event) (me : ℕ) (call : Call) → is_racy call ≡ false → IsAllMatched before → AllMade n before
     → view_of (before ++ event ∷ []) me ≡ view_of before me
     → due n (before ++ event ∷ []) me (view_of (before ++ event ∷ []) me) call ≡ due n before me (view_of before me) call
     → can_go n before me (view_of before me) call ≡ true → IsCalmly n before event me call

@@ -5,11 +5,12 @@ use Rattle.mpi_call.specs.declared.call.Halt.{Halt}
 use Rattle.run_model.specs.declared.event.Event.{Event}
 use Rattle.run_model.specs.Allowed.{IsStuck, can_go}
 use Rattle.run_model.specs.Due.{halt_of_reply, halted, is_full, or_else}
-use Rattle.run_model.specs.Pairs.{IsMatched}
-use Rattle.run_model.specs.Run.{IsEvent}
+use Rattle.run_model.specs.Pairs.{IsAllMatched}
+use Rattle.run_model.specs.Run.{IsPromptEvent}
 use Rattle.run_model.specs.Serial.{call_after}
 use Rattle.run_model.specs.Views.{Next, View, replies_in, view_of}
-use Rattle.run_model.proofs.RunLaws.{Lawful, kept_run}
+use Rattle.run_model.proofs.Prompt.{kept_prompt}
+use Rattle.run_model.proofs.RunLaws.{Lawful}
 use Rattle.run_model.proofs.Views.{view_of-other}
 use Rattle.picked_runs.specs.declared.turn.Pick.{Pick}
 use Rattle.picked_runs.specs.declared.turn.Pick.TheVariants.{First}
@@ -66,20 +67,20 @@ pub first_run : (next : Next) (n : ℕ) → Lawful next → (before : List Event
     → IsGood next n (before ++ picked_event n before me call First ∷ [])
 first_run next n lawful before me call good is =
     step_on next n lawful before me call First good is.below is.asked refl (inl (quiet_goes n before me call is.answered))
-    (matched_still before (picked_event n before me call First) (quiet_event n before me call is.answered.kind) (kept_run next n before lawful good.run).matched)
+    (matched_still before (picked_event n before me call First) (quiet_event n before me call is.answered.kind) (kept_prompt next n before lawful good.run).matched)
 
 -- another rank's event can be made behind it, if it is left alone
 pub other_run : (next : Next) (n : ℕ) → Lawful next → (before : List Event) (q x : Event) → IsGood next n before → IsGood next n (before ++ q ∷ [])
-    → IsEvent next n before x → IsNumberedInOrder n before x → LeavesAlone n before q x.rank → (IsStuck next n before → ⊥)
-    → IsMatched ((before ++ q ∷ []) ++ x ∷ []) → IsGood next n ((before ++ q ∷ []) ++ x ∷ [])
+    → IsPromptEvent next n before x → IsNumberedInOrder n before x → LeavesAlone n before q x.rank → (IsStuck next n before → ⊥)
+    → IsAllMatched ((before ++ q ∷ []) ++ x ∷ []) → IsGood next n ((before ++ q ∷ []) ++ x ∷ [])
 other_run next n lawful before q x good first step ordered alone unstuck matched =
     let after : List Event = before ++ q ∷ [] in
-    let kept = kept_run next n before lawful good.run in
+    let kept = kept_prompt next n before lawful good.run in
     let pick : Pick = pick_of n before x in
     let picked : IsPickedEvent n before x pick = event_picked next n before x kept.matched kept.below step ordered in
     let u = unseen n before q x.rank x.call pick alone in
     let event : picked_event n after x.rank x.call pick ≡ x = u.same ∙ sym picked.event_is in
-    let F : Event → Type 0 = λ e. IsMatched (after ++ e ∷ []) in
+    let F : Event → Type 0 = λ e. IsAllMatched (after ++ e ∷ []) in
     let G : Event → Type 0 = λ e. IsGood next n (after ++ e ∷ []) in
     let asked : call_after next n after x.rank ≡ Some x.call = ap (λ (v : View). next n x.rank (replies_in v)) alone.own ∙ step.call in
     let goes : (can_go n after x.rank (view_of after x.rank) x.call ≡ true) ⊎ IsStuck next n after =
@@ -96,7 +97,7 @@ unstuck next n before me call is stuck =
 
 -- what else is called has it in the other order too
 pub behind_run : (next : Next) (n : ℕ) → Lawful next → (before : List Event) (me : ℕ) (call : Call) (x : Event) → IsGood next n before → IsAsked next n before me call
-    → IsEvent next n before x → IsNumberedInOrder n before x → (x.rank == me) ≡ false → is_full (before ++ picked_event n before me call First ∷ []) ≡ false
+    → IsPromptEvent next n before x → IsNumberedInOrder n before x → (x.rank == me) ≡ false → is_full (before ++ picked_event n before me call First ∷ []) ≡ false
     → IsGood next n ((before ++ picked_event n before me call First ∷ []) ++ x ∷ [])
 behind_run next n lawful before me call x good is step ordered apart full =
     let q : Event = picked_event n before me call First in
@@ -119,7 +120,7 @@ pub stays_asked : (next : Next) (n : ℕ) → Lawful next → (before : List Eve
     → (x.rank == me) ≡ false → halted (before ++ x ∷ []) ≡ None → is_full (before ++ x ∷ []) ≡ false → StaysAsked next n before (before ++ x ∷ []) me call
 stays_asked next n lawful before me call x good is apart halts full =
     let a : IsAnsweredOn n before (before ++ x ∷ []) me call =
-    answered_on n before x me call is.answered (kept_run next n before lawful good.run).matched (made_in next n lawful before good.run) apart halts full in
+    answered_on n before x me call is.answered (kept_prompt next n before lawful good.run).matched (made_in next n lawful before good.run) apart halts full in
     record {
       same = a.same;
       there = record {
@@ -132,9 +133,9 @@ stays_asked next n lawful before me call x good is apart halts full =
 -- 4. the rank's own next event is the quiet call's
 
 pub own_event : (next : Next) (n : ℕ) → Lawful next → (before : List Event) (me : ℕ) (call : Call) (x : Event) → IsGood next n before → IsAsked next n before me call
-    → IsEvent next n before x → IsNumberedInOrder n before x → x.rank ≡ me → x ≡ picked_event n before me call First
+    → IsPromptEvent next n before x → IsNumberedInOrder n before x → x.rank ≡ me → x ≡ picked_event n before me call First
 own_event next n lawful before me call x good is step ordered same =
-    let kept = kept_run next n before lawful good.run in
+    let kept = kept_prompt next n before lawful good.run in
     let pick : Pick = pick_of n before x in
     let picked : IsPickedEvent n before x pick = event_picked next n before x kept.matched kept.below step ordered in
     let asked : Some x.call ≡ Some call = sym step.call ∙ (ap (call_after next n before) same ∙ is.asked) in
@@ -151,7 +152,7 @@ pub probe_on : (before after : List Event) (event : Event) → view_of after eve
 probe_on before after event view mate kept earlier comm source tag wait room sender start sent count seen posted done =
     mate ∙ kept earlier comm source tag wait room sender start sent count (sym view ∙ seen) posted done
 
-pub other_probe : (next : Next) (n : ℕ) (before : List Event) (q x : Event) → IsEvent next n before x → (q.rank == x.rank) ≡ false → IsProbeKept before x
+pub other_probe : (next : Next) (n : ℕ) (before : List Event) (q x : Event) → IsPromptEvent next n before x → (q.rank == x.rank) ≡ false → IsProbeKept before x
     → IsProbeKept (before ++ q ∷ []) x
 other_probe next n before q x step apart kept =
     probe_on before (before ++ q ∷ []) x (view_of-other before q x.rank apart) (mate_stays before (q ∷ []) x step.mate) kept

@@ -17,7 +17,7 @@ use Rattle.picked_runs.proofs.Pairing.{same_name-true}
 use Rattle.run_states.specs.Futures.{SameFuture, mate_name}
 use Rattle.quiet_calls.proofs.Named.{named_makes, named_off, other_of}
 use Rattle.quiet_calls.proofs.Beside.{enter_beside}
-use Rattle.quiet_calls.proofs.Swapping.{made_with, pair_is, views_swapped}
+use Rattle.quiet_calls.proofs.Swapping.{made_with, pair_beside, pair_is, views_swapped}
 use Rattle.quiet_calls.proofs.Meeting.{TakesNone, new_apart, seam_name}
 
 -- 1. Enters and communicators do not know of it
@@ -86,12 +86,12 @@ partners_swapped P A B apart name =
     one ∙ (swap_by (partner_of P name) (partner_of A name) (partner_of B name) (apart name) ∙ sym two)
 
 -- the pair that an event makes is of its own start and of its mate
-partner_in : (before : List Event) (event : Event) (name other : Name) → partner_of (pair_of before event) name ≡ Some other
+partner_in : (before : List Event) (event : Event) (name other : Name) → event.met ≡ [] → partner_of (pair_of before event) name ≡ Some other
     → (mate_name before event.mate ≡ Some name) ⊎ ((new_name before event ≡ name) × (mate : Name) × (mate_name before event.mate ≡ Some mate))
-partner_in before event name other h =
+partner_in before event name other none_met h =
     elim (option_cases (mate_name before event.mate)) [
       | inl some ↦
-          let one : pair_of before event ≡ (some.0, new_name before event) ∷ [] = pair_is before event ∙ ap (λ m. pair_with m (new_name before event)) some.1 in
+          let one : pair_of before event ≡ (some.0, new_name before event) ∷ [] = pair_is before event none_met ∙ ap (λ m. pair_with m (new_name before event)) some.1 in
           let there : partner_of ((some.0, new_name before event) ∷ []) name ≡ Some other = ap (λ l. partner_of l name) (sym one) ∙ h in
           elim (test_cases (same_name some.0 name)) [
             | inl t ↦ inl (some.1 ∙ ap (λ (x : Name). Some x) (same_name-true some.0 name t))
@@ -101,7 +101,7 @@ partner_in before event name other h =
             ]
           ]
       | inr none ↦
-          let one : pair_of before event ≡ [] = pair_is before event ∙ ap (λ m. pair_with m (new_name before event)) none in
+          let one : pair_of before event ≡ [] = pair_is before event none_met ∙ ap (λ m. pair_with m (new_name before event)) none in
           let no : None ≡ Some other = ap (λ l. partner_of l name) (sym one) ∙ h in
           absurd (cc)
     ]
@@ -112,19 +112,19 @@ partner_in before event name other h =
 abbrev pub HasStart : List Event → Event → Type 0
 HasStart before event = (name : Name) → mate_name before event.mate ≡ Some name → (start : Call) × (named before name ≡ Some start) × (suits event.rank event.call name.0 start ≡ true)
 
-pairs_apart : (before : List Event) (x q : Event) → (x.rank == q.rank) ≡ false → HasStart before x → HasStart before q → TakesNone before x q.rank q.call
+pairs_apart : (before : List Event) (x q : Event) → x.met ≡ [] → q.met ≡ [] → (x.rank == q.rank) ≡ false → HasStart before x → HasStart before q → TakesNone before x q.rank q.call
     → AreApart (pair_of before x) (pair_of before q)
-pairs_apart before x q apart xs qs none name =
+pairs_apart before x q x_met q_met apart xs qs none name =
     elim (option_cases (partner_of (pair_of before x) name)) [
       | inr free ↦ inl free
       | inl a ↦ elim (option_cases (partner_of (pair_of before q) name)) [
         | inr free ↦ inr free
-        | inl b ↦ absurd (elim (partner_in before x name a.0 a.1) [
-          | inl mine ↦ elim (partner_in before q name b.0 b.1) [
+        | inl b ↦ absurd (elim (partner_in before x name a.0 x_met a.1) [
+          | inl mine ↦ elim (partner_in before q name b.0 q_met b.1) [
             | inl yours ↦ (let s = qs name yours in none name s.0 mine s.1 s.2)
             | inr new ↦ (let s = xs name mine in new_apart before q name s.0 s.1 new.0)
           ]
-          | inr new ↦ elim (partner_in before q name b.0 b.1) [
+          | inr new ↦ elim (partner_in before q name b.0 q_met b.1) [
             | inl yours ↦ (let s = qs name yours in new_apart before x name s.0 s.1 new.0)
             | inr newer ↦
                 let ranks : x.rank ≡ q.rank = ap (λ (m : Name). m.0) (new.0 ∙ sym newer.0) in
@@ -135,17 +135,9 @@ pairs_apart before x q apart xs qs none name =
       ]
     ]
 
-pub pair_beside : (before : List Event) (other event : Event) → mate_name (before ++ other ∷ []) event.mate ≡ mate_name before event.mate → (other.rank == event.rank) ≡ false
-    → pair_of (before ++ other ∷ []) event ≡ pair_of before event
-pair_beside before other event mate apart =
-    let count : View → Name = λ v. (event.rank, length (starts_of v)) in
-    pair_is (before ++ other ∷ []) event
-    ∙ (ap (λ m. pair_with m (new_name (before ++ other ∷ []) event)) mate
-    ∙ (ap (λ (v : View). pair_with (mate_name before event.mate) (count v)) (view_of-other before other event.rank apart) ∙ sym (pair_is before event)))
-
 -- an event with another mate
 abbrev pub with_mate : Event → Option ℕ → Event
-with_mate event mate = record { rank = event.rank; call = event.call; reply = event.reply; mate = mate }
+with_mate event mate = record { rank = event.rank; call = event.call; reply = event.reply; mate = mate; met = event.met }
 
 pub seen_with : (before : List Event) (event : Event) (mate : Option ℕ) (rank : ℕ) → view_of (before ++ with_mate event mate ∷ []) rank ≡ view_of (before ++ event ∷ []) rank
 seen_with before event mate rank = view_of-append before (with_mate event mate ∷ []) rank ∙ sym (view_of-append before (event ∷ []) rank)
@@ -178,10 +170,10 @@ views_beside before x q m k apart rank =
     seen_with (before ++ x ∷ []) q k rank ∙ (views_swapped before x q apart rank ∙ sym (seen_with (before ++ q ∷ []) x m rank))
 
 -- they take nothing of each other
-pub future_beside : (n : ℕ) (before : List Event) (x q : Event) (w : ℕ) → other_of q.call ≡ Some w → (x.rank == q.rank) ≡ false → (q.rank == x.rank) ≡ false
+pub future_beside : (n : ℕ) (before : List Event) (x q : Event) (w : ℕ) → x.met ≡ [] → q.met ≡ [] → other_of q.call ≡ Some w → (x.rank == q.rank) ≡ false → (q.rank == x.rank) ≡ false
     → HasStart before x → HasStart before q → TakesNone before x q.rank q.call → mate_name (before ++ x ∷ []) q.mate ≡ mate_name before q.mate
     → mate_name (before ++ q ∷ []) x.mate ≡ mate_name before x.mate → SameFuture n ((before ++ x ∷ []) ++ q ∷ []) ((before ++ q ∷ []) ++ x ∷ [])
-future_beside n before x q w named apart apart' xs qs none qm xm =
+future_beside n before x q w x_met q_met named apart apart' xs qs none qm xm =
     let P : List (Name × Name) = pairs_of before in
     let A : List (Name × Name) = pair_of before x in
     let B : List (Name × Name) = pair_of before q in
@@ -191,7 +183,7 @@ future_beside n before x q w named apart apart' xs qs none qm xm =
     pairs_of-push (before ++ q ∷ []) x ∙ (ap (λ l. l ++ pair_of (before ++ q ∷ []) x) (pairs_of-push before q) ∙ ap (λ l. (P ++ B) ++ l) (pair_beside before q x xm apart')) in
     record {
       views = views_beside before x q x.mate q.mate apart;
-      pairs = λ name. ap (λ l. partner_of l name) one ∙ (partners_swapped P A B (pairs_apart before x q apart xs qs none) name ∙ sym (ap (λ l. partner_of l name) two));
+      pairs = λ name. ap (λ l. partner_of l name) one ∙ (partners_swapped P A B (pairs_apart before x q x_met q_met apart xs qs none) name ∙ sym (ap (λ l. partner_of l name) two));
       made = communicators_beside n before x q x.mate q.mate w named apart apart';
     }
 
@@ -209,33 +201,33 @@ either_pair a b name apart =
       ]
     ]
 
-pub pair_none : (before : List Event) (event : Event) → mate_name before event.mate ≡ None → pair_of before event ≡ []
-pair_none before event none = pair_is before event ∙ ap (λ m. pair_with m (new_name before event)) none
+pub pair_none : (before : List Event) (event : Event) → event.met ≡ [] → mate_name before event.mate ≡ None → pair_of before event ≡ []
+pair_none before event none_met none = pair_is before event none_met ∙ ap (λ m. pair_with m (new_name before event)) none
 
-pair_last : (before : List Event) (other event : Event) → is_start (other.call, other.reply) ≡ true → (other.rank == event.rank) ≡ false
+pair_last : (before : List Event) (other event : Event) → event.met ≡ [] → is_start (other.call, other.reply) ≡ true → (other.rank == event.rank) ≡ false
     → pair_of (before ++ other ∷ []) (with_mate event (Some (length before))) ≡ (new_name before other, new_name before event) ∷ []
-pair_last before other event starts apart =
+pair_last before other event none_met starts apart =
     let pair : Name → View → List (Name × Name) = λ a v. (a, (event.rank, length (starts_of v))) ∷ [] in
-    pair_is (before ++ other ∷ []) (with_mate event (Some (length before)))
+    pair_is (before ++ other ∷ []) (with_mate event (Some (length before))) none_met
     ∙ (ap (λ m. pair_with m (new_name (before ++ other ∷ []) event)) (seam_name before other starts)
     ∙ ap (λ (v : View). pair (new_name before other) v) (view_of-other before other event.rank apart))
 
-pub future_crossed : (n : ℕ) (before : List Event) (x q : Event) (w : ℕ) → other_of q.call ≡ Some w → (x.rank == q.rank) ≡ false → (q.rank == x.rank) ≡ false
+pub future_crossed : (n : ℕ) (before : List Event) (x q : Event) (w : ℕ) → x.met ≡ [] → q.met ≡ [] → other_of q.call ≡ Some w → (x.rank == q.rank) ≡ false → (q.rank == x.rank) ≡ false
     → is_start (x.call, x.reply) ≡ true → is_start (q.call, q.reply) ≡ true → mate_name before x.mate ≡ None → mate_name before q.mate ≡ None
     → SameFuture n ((before ++ x ∷ []) ++ with_mate q (Some (length before)) ∷ []) ((before ++ q ∷ []) ++ with_mate x (Some (length before)) ∷ [])
-future_crossed n before x q w named apart apart' xstart qstart xm qm =
+future_crossed n before x q w x_met q_met named apart apart' xstart qstart xm qm =
     let P : List (Name × Name) = pairs_of before in
     let a : Name = new_name before x in
     let b : Name = new_name before q in
     let at : Option ℕ = Some (length before) in
     let one : pairs_of ((before ++ x ∷ []) ++ with_mate q at ∷ []) ≡ P ++ (a, b) ∷ [] =
     pairs_of-push (before ++ x ∷ []) (with_mate q at)
-    ∙ (ap (λ l. l ++ pair_of (before ++ x ∷ []) (with_mate q at)) (pairs_of-push before x ∙ (ap (λ l. P ++ l) (pair_none before x xm) ∙ append-nil P))
-    ∙ ap (λ l. P ++ l) (pair_last before x q xstart apart)) in
+    ∙ (ap (λ l. l ++ pair_of (before ++ x ∷ []) (with_mate q at)) (pairs_of-push before x ∙ (ap (λ l. P ++ l) (pair_none before x x_met xm) ∙ append-nil P))
+    ∙ ap (λ l. P ++ l) (pair_last before x q q_met xstart apart)) in
     let two : pairs_of ((before ++ q ∷ []) ++ with_mate x at ∷ []) ≡ P ++ (b, a) ∷ [] =
     pairs_of-push (before ++ q ∷ []) (with_mate x at)
-    ∙ (ap (λ l. l ++ pair_of (before ++ q ∷ []) (with_mate x at)) (pairs_of-push before q ∙ (ap (λ l. P ++ l) (pair_none before q qm) ∙ append-nil P))
-    ∙ ap (λ l. P ++ l) (pair_last before q x qstart apart')) in
+    ∙ (ap (λ l. l ++ pair_of (before ++ q ∷ []) (with_mate x at)) (pairs_of-push before q ∙ (ap (λ l. P ++ l) (pair_none before q q_met qm) ∙ append-nil P))
+    ∙ ap (λ l. P ++ l) (pair_last before q x x_met qstart apart')) in
     let beside : a ≡ b → ⊥ = λ e. (let ranks : x.rank ≡ q.rank = ap (λ (m : Name). m.0) e in let no : true ≡ false = sym (eq-eqb x.rank q.rank ranks) ∙ apart in cc) in
     record {
       views = views_beside before x q at at apart;
@@ -253,11 +245,11 @@ partner_beside before event name none =
     ap (λ l. partner_of l name) (pairs_of-push before event)
     ∙ (partner_more (pairs_of before) (pair_of before event) name ∙ first_last (partner_of (pairs_of before) name) (partner_of (pair_of before event) name) none)
 
-pub pair_other : (before : List Event) (event : Event) (name : Name) → HasStart before event → ((start : Call) → suits event.rank event.call name.0 start ≡ true → ⊥)
+pub pair_other : (before : List Event) (event : Event) (name : Name) → event.met ≡ [] → HasStart before event → ((start : Call) → suits event.rank event.call name.0 start ≡ true → ⊥)
     → (event.rank ≡ name.0 → ⊥) → partner_of (pair_of before event) name ≡ None
-pair_other before event name has never apart =
+pair_other before event name none_met has never apart =
     elim (option_cases (partner_of (pair_of before event) name)) [
-      | inl some ↦ absurd (elim (partner_in before event name some.0 some.1) [
+      | inl some ↦ absurd (elim (partner_in before event name some.0 none_met some.1) [
         | inl mine ↦ (let s = has name mine in never s.0 s.2)
         | inr new ↦ apart (ap (λ (m : Name). m.0) new.0)
       ])

@@ -11,11 +11,12 @@ use Rattle.mpi_call.specs.Calls.{is_enter, is_starting, makes}
 use Rattle.run_model.specs.declared.event.Event.{Event}
 use Rattle.run_model.specs.Allowed.{IsStuck}
 use Rattle.run_model.specs.Due.{due, halt_of_reply, halted, is_full, or_else}
-use Rattle.run_model.specs.Pairs.{IsMatched, Name, named}
-use Rattle.run_model.specs.Run.{IsEvent}
+use Rattle.run_model.specs.Pairs.{IsAllMatched, Name, named}
+use Rattle.run_model.specs.Run.{IsPromptEvent}
 use Rattle.run_model.specs.Serial.{call_after}
 use Rattle.run_model.specs.Views.{Next, View, is_start, replies_in, starts_of, view_of}
-use Rattle.run_model.proofs.RunLaws.{Lawful, kept_run}
+use Rattle.run_model.proofs.Prompt.{kept_prompt}
+use Rattle.run_model.proofs.RunLaws.{Lawful}
 use Rattle.run_model.proofs.Taken.{none_parts}
 use Rattle.run_model.proofs.Views.{test_cases, view_of-other}
 use Rattle.picked_runs.specs.declared.turn.Pick.{Pick}
@@ -252,9 +253,9 @@ one_quiet n races before me call pick h offered =
 -- 5. its rank's next event is this one
 
 pub own_first : (next : Next) (n : ℕ) → Lawful next → (races : Races) (before : List Event) (me : ℕ) (call : Call) (q x : Event) → IsGood next n before
-    → IsFirst next n races before me call q → IsEvent next n before x → IsNumberedInOrder n before x → x.rank ≡ me → x ≡ q
+    → IsFirst next n races before me call q → IsPromptEvent next n before x → IsNumberedInOrder n before x → x.rank ≡ me → x ≡ q
 own_first next n lawful races before me call q x good f step ordered same =
-    let kept = kept_run next n before lawful good.run in
+    let kept = kept_prompt next n before lawful good.run in
     let pick : Pick = pick_of n before x in
     let picked : IsPickedEvent n before x pick = event_picked next n before x kept.matched kept.below step ordered in
     let asked : Some x.call ≡ Some call = sym step.call ∙ (ap (call_after next n before) same ∙ f.asked) in
@@ -280,7 +281,7 @@ asked_on : (next : Next) (n : ℕ) (before : List Event) (x : Event) (me : ℕ) 
 asked_on next n before x me call apart asked = ap (λ (v : View). next n me (replies_in v)) (view_of-other before x me apart) ∙ asked
 
 steady_diamond : (next : Next) (n : ℕ) → Lawful next → (races : Races) (before : List Event) (me : ℕ) (call : Call) (x : Event) → IsGood next n before
-    → (f : IsFirst next n races before me call (picked_event n before me call First)) → is_steady call ≡ true → IsEvent next n before x → IsNumberedInOrder n before x → (x.rank == me) ≡ false
+    → (f : IsFirst next n races before me call (picked_event n before me call First)) → is_steady call ≡ true → IsPromptEvent next n before x → IsNumberedInOrder n before x → (x.rank == me) ≡ false
     → is_full (before ++ picked_event n before me call First ∷ []) ≡ false → halted (before ++ x ∷ []) ≡ None → is_full (before ++ x ∷ []) ≡ false
     → IsDiamond next n races before me call (picked_event n before me call First) x
 steady_diamond next n lawful races before me call x good f kind step ordered apart full halts room =
@@ -332,7 +333,7 @@ named_diamond next n races before me call x f apart s =
 pub record IsBesideFirst (next : Next) (n : ℕ) (races : Races) (before : List Event) (me : ℕ) (call : Call) (q x : Event) (after : List Event) : Type 0 where
   pub good : IsGood next n before
   pub first : IsFirst next n races before me call q
-  pub step : IsEvent next n before x
+  pub step : IsPromptEvent next n before x
   pub ordered : IsNumberedInOrder n before x
   pub apart : (x.rank == me) ≡ false
   pub calm : is_calm races (before ++ x ∷ after) ≡ true
@@ -380,7 +381,7 @@ enter_made_behind next n lawful races before me call x after b k =
     let front : List Event = before ++ x ∷ [] in
     let i = enter_with next n races before me call x after b k in
     let e = enter_event n before me call k.enters i.is.none in
-    let behind : IsMatched (front ++ q ∷ []) = matched_chosen front q b.step.matched e.starts (e.mate ∙ sym (enter_choice front me call k.enters)) in
+    let behind : IsAllMatched (front ++ q ∷ []) = matched_chosen front q b.step.matched e.starts (e.mate ∙ sym (enter_choice front me call k.enters)) refl in
     enter_behind next n lawful before me call x after i
     (matched_same n (front ++ q ∷ []) ((before ++ q ∷ []) ++ x ∷ []) (enter_future next n before me call x after i) behind)
 
@@ -417,12 +418,12 @@ enter_halting : (next : Next) (n : ℕ) → Lawful next → (races : Races) (bef
 enter_halting next n lawful races before me call x after halt b k stopped =
     let q : Event = picked_event n before me call First in
     let i = enter_with next n races before me call x after b k in
-    let kept = kept_run next n before lawful b.good.run in
+    let kept = kept_prompt next n before lawful b.good.run in
     let first = enter_first_run next n lawful before me call b.good i.is in
     let picked = event_picked next n before x kept.matched kept.below b.step b.ordered in
     let idle : is_start (x.call, x.reply) ≡ false = ap (λ r. is_start (x.call, r)) stopped ∙ and_right (is_starting x.call) false refl in
     let alone : x.mate ≡ None = idle_mate n before x (pick_of n before x) picked idle in
-    enter_behind next n lawful before me call x after i (matched_idle (before ++ q ∷ []) x idle alone (kept_run next n (before ++ q ∷ []) lawful first.run).matched)
+    enter_behind next n lawful before me call x after i (matched_idle (before ++ q ∷ []) x idle alone b.step.alone (kept_prompt next n (before ++ q ∷ []) lawful first.run).matched)
 
 pub diamond : (next : Next) (n : ℕ) → Lawful next → (races : Races) (before : List Event) (me : ℕ) (call : Call) (q x : Event) (after : List Event)
     → IsBesideFirst next n races before me call q x after → halted (before ++ x ∷ []) ≡ None → is_full (before ++ x ∷ []) ≡ false → IsDiamond next n races before me call q x

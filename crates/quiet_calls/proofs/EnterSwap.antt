@@ -23,8 +23,8 @@ use Rattle.run_model.specs.Due.{disagrees, due, halt_at, halt_of_reply, halted, 
 use Rattle.run_model.specs.Inputs.{gather}
 use Rattle.run_model.specs.Lists.{world}
 use Rattle.run_model.specs.Numbers.{Origin, communicators_of, made_at, origins_from}
-use Rattle.run_model.specs.Pairs.{IsMatched, Name, pair_of, pairs_of, partner_of}
-use Rattle.run_model.specs.Run.{IsEvent}
+use Rattle.run_model.specs.Pairs.{IsAllMatched, Name, pair_of, pairs_of, partner_of}
+use Rattle.run_model.specs.Run.{IsPromptEvent}
 use Rattle.run_model.specs.Serial.{call_after}
 use Rattle.run_model.specs.Views.{Next, View, is_start, moment_at, replies_in, starts_of, view_of}
 use Rattle.run_model.proofs.Enters.{enter_back}
@@ -32,7 +32,8 @@ use Rattle.run_model.proofs.Instances.{on_own}
 use Rattle.run_model.proofs.Numbered.{AllMade, communicators_of-push}
 use Rattle.run_model.proofs.Prefixes.{Begins-more}
 use Rattle.run_model.proofs.StartLemmas.{enter_at-kept}
-use Rattle.run_model.proofs.RunLaws.{Lawful, kept_run}
+use Rattle.run_model.proofs.Prompt.{kept_prompt}
+use Rattle.run_model.proofs.RunLaws.{Lawful}
 use Rattle.run_model.proofs.Views.{option_cases, test_cases, view_of-mine, view_of-other}
 use Rattle.picked_runs.specs.declared.turn.Pick.{Pick}
 use Rattle.picked_runs.specs.declared.turn.Pick.TheVariants.{First, Sender, Index}
@@ -48,11 +49,11 @@ use Rattle.quiet_calls.proofs.Unseen.{due_by, peeked_stays}
 use Rattle.quiet_calls.proofs.Staying.{all_on, free_due, free_parts, reply_answer}
 use Rattle.quiet_calls.proofs.Going.{allowed_goes}
 use Rattle.quiet_calls.proofs.Runs.{IsGood, made_in, step_on}
-use Rattle.quiet_calls.proofs.Swapping.{mate_stays, other_way, views_swapped}
+use Rattle.quiet_calls.proofs.Swapping.{mate_stays, other_way, pair_beside, views_swapped}
 use Rattle.quiet_calls.proofs.Commuting.{halted_more, or_else-last}
 use Rattle.quiet_calls.proofs.Meeting.{TakesNone, choice_behind}
 use Rattle.quiet_calls.proofs.Matching.{matched_chosen}
-use Rattle.quiet_calls.proofs.Crossing.{made_none, made_off, pair_beside, pair_none}
+use Rattle.quiet_calls.proofs.Crossing.{made_none, made_off, pair_none}
 use Rattle.quiet_calls.proofs.NamedFirst.{open_by}
 use Rattle.quiet_calls.proofs.Calm.{all_true}
 use Rattle.quiet_calls.proofs.Entering.{agree_makes, agrees_in, enter_makes, enter_choice, mismatched_front, next_instance, none_any, one_disagrees, suits_enter}
@@ -106,16 +107,16 @@ pub enter_first_run : (next : Next) (n : ℕ) → Lawful next → (before : List
 enter_first_run next n lawful before me call good is =
     let e = enter_event n before me call is.enters is.none in
     step_on next n lawful before me call First good is.below is.asked refl (inl (enter_goes next n before me call is))
-    (matched_chosen before (picked_event n before me call First) (kept_run next n before lawful good.run).matched e.starts (e.mate ∙ sym (enter_choice before me call is.enters)))
+    (matched_chosen before (picked_event n before me call First) (kept_prompt next n before lawful good.run).matched e.starts (e.mate ∙ sym (enter_choice before me call is.enters)) refl)
 
 -- 2. what is open to others
 
 takes_nothing : (before : List Event) (q : Event) (p : ℕ) (d : Call) → q.mate ≡ None → TakesNone before q p d
 takes_nothing before q p d alone name start h made suited = (let no : None ≡ Some name = sym (ap (mate_name before) alone) ∙ h in cc)
 
-pub enter_choices : (before : List Event) (q : Event) → IsMatched before → is_enter q.call ≡ true → q.mate ≡ None → (p : ℕ) (d : Call) → choice (before ++ q ∷ []) p d ≡ choice before p d
-enter_choices before q matched enters alone p d =
-    elim (choice_behind before q p d matched (takes_nothing before q p d alone)) [
+pub enter_choices : (before : List Event) (q : Event) → IsAllMatched before → is_enter q.call ≡ true → q.mate ≡ None → q.met ≡ [] → (p : ℕ) (d : Call) → choice (before ++ q ∷ []) p d ≡ choice before p d
+enter_choices before q matched enters alone none_met p d =
+    elim (choice_behind before q p d matched none_met (takes_nothing before q p d alone)) [
       | inl same ↦ same
       | inr new ↦ (let no : true ≡ false = sym new.suited ∙ suits_enter p d q.rank q.call enters in absurd (cc))
     ]
@@ -125,7 +126,7 @@ enter_choices before q matched enters alone p d =
 pub record IsEnterWith (next : Next) (n : ℕ) (before : List Event) (me : ℕ) (call : Call) (x : Event) (after : List Event) : Type 0 where
   pub good : IsGood next n before
   pub is : IsEnterAsked next n before me call
-  pub step : IsEvent next n before x
+  pub step : IsPromptEvent next n before x
   pub ordered : IsNumberedInOrder n before x
   pub apart : (x.rank == me) ≡ false
   pub whole : is_partial x.call ≡ false
@@ -190,7 +191,7 @@ mismatched_same : (next : Next) (n : ℕ) → Lawful next → (before : List Eve
 mismatched_same next n lawful before me call x after i enters =
     let q : Event = picked_event n before me call First in
     let own : View = view_of before x.rank in
-    let kept = kept_run next n before lawful i.good.run in
+    let kept = kept_prompt next n before lawful i.good.run in
     let parts = free_parts n before me call i.is.none in
     elim (test_cases (is_mismatched n before own x.call)) [
       | inl t ↦ elim (test_cases (is_mismatched n (before ++ q ∷ []) own x.call)) [
@@ -218,7 +219,7 @@ whole_prompt n before q p own (Take starts mode) h opens prompt = absurd (cc)
 whole_prompt n before q p own (Peek comm source tag wait) h opens prompt = ap (λ (b : Bool). not wait || b) (opens comm source tag) ∙ prompt
 whole_prompt n before q p own d h opens prompt = refl
 
-whole_answer : (n : ℕ) (before : List Event) (q : Event) (p : ℕ) (d : Call) (pick : Pick) → is_partial d ≡ false → IsMatched before → AllMade n before
+whole_answer : (n : ℕ) (before : List Event) (q : Event) (p : ℕ) (d : Call) (pick : Pick) → is_partial d ≡ false → IsAllMatched before → AllMade n before
     → ((d : Call) → choice (before ++ q ∷ []) p d ≡ choice before p d) → is_prompt n before p (view_of before p) d ≡ true
     → picked_answer n (before ++ q ∷ []) p (view_of before p) d pick ≡ picked_answer n before p (view_of before p) d pick
 whole_answer n before q p (Take starts All) pick h matched made choices prompt = all_on n before q p starts false matched made prompt
@@ -262,20 +263,20 @@ enter_halts n before me call enters none =
     ∙ (ap (λ r. or_else (halted before) (halt_of_reply r)) (enter_event n before me call enters none).reply ∙ or_else-last (halted before))
 
 pub enter_behind : (next : Next) (n : ℕ) → Lawful next → (before : List Event) (me : ℕ) (call : Call) (x : Event) (after : List Event) → IsEnterWith next n before me call x after
-    → IsMatched ((before ++ picked_event n before me call First ∷ []) ++ x ∷ []) → IsGood next n ((before ++ picked_event n before me call First ∷ []) ++ x ∷ [])
+    → IsAllMatched ((before ++ picked_event n before me call First ∷ []) ++ x ∷ []) → IsGood next n ((before ++ picked_event n before me call First ∷ []) ++ x ∷ [])
 enter_behind next n lawful before me call x after i matched =
     let q : Event = picked_event n before me call First in
     let behind : List Event = before ++ q ∷ [] in
     let p : ℕ = x.rank in
     let d : Call = x.call in
     let own : View = view_of before p in
-    let kept = kept_run next n before lawful i.good.run in
+    let kept = kept_prompt next n before lawful i.good.run in
     let first = enter_first_run next n lawful before me call i.good i.is in
-    let kept' = kept_run next n behind lawful first.run in
+    let kept' = kept_prompt next n behind lawful first.run in
     let parts = free_parts n before me call i.is.none in
     let e = enter_event n before me call i.is.enters i.is.none in
     let seen : view_of behind p ≡ own = view_of-other before q p (other_way p me i.apart) in
-    let choices : (c : Call) → choice behind p c ≡ choice before p c = λ c. enter_choices before q kept.matched i.is.enters e.mate p c in
+    let choices : (c : Call) → choice behind p c ≡ choice before p c = λ c. enter_choices before q kept.matched i.is.enters e.mate refl p c in
     let opens : (comm : ℕ) (source : Source) (tag : Tag) → has_open n behind p comm source tag ≡ has_open n before p comm source tag =
     λ comm source tag. open_by n behind before kept'.below kept.below p comm source tag (choices (Peek comm source tag true)) in
     let same : due n behind p (view_of behind p) d ≡ due n before p own d =
@@ -306,13 +307,13 @@ enter_behind next n lawful before me call x after i matched =
                 (subst F (sym seen) (whole_prompt n before q p own d i.whole opens prompt)),
           )
     ] in
-    let E : Reply → Option ℕ → Event = λ r m. record { rank = p; call = d; reply = r; mate = m } in
+    let E : Reply → Option ℕ → Event = λ r m. record { rank = p; call = d; reply = r; mate = m; met = [] } in
     let mate : (r : Reply) → picked_mate behind p d r pick ≡ picked_mate before p d r pick =
     λ r. ap (λ (o : Option ℕ). if is_start (d, r) then o else None) (choices (looking d pick)) in
     let event : picked_event n behind p d pick ≡ x =
     ap (λ r. E r (picked_mate behind p d r pick)) both.0 ∙ (ap (E (picked_reply n before p d pick)) (mate (picked_reply n before p d pick)) ∙ sym picked.event_is) in
     let asked : call_after next n behind p ≡ Some d = ap (λ (v : View). next n p (replies_in v)) seen ∙ i.step.call in
-    let M : Event → Type 0 = λ l. IsMatched (behind ++ l ∷ []) in
+    let M : Event → Type 0 = λ l. IsAllMatched (behind ++ l ∷ []) in
     let G : Event → Type 0 = λ l. IsGood next n (behind ++ l ∷ []) in
     subst G event (step_on next n lawful behind p d pick first i.step.rank asked (whole_offers n before q p d pick i.whole choices same ∙ picked.offered) (inl both.1) (subst M (sym event) matched))
 
@@ -401,8 +402,8 @@ enter_future next n before me call x after i =
     let P : List (Name × Name) = pairs_of before in
     let one : pairs_of ((before ++ x ∷ []) ++ q ∷ []) ≡ P ++ pair_of before x =
     pairs_of-push (before ++ x ∷ []) q
-    ∙ (ap (λ l. pairs_of (before ++ x ∷ []) ++ l) (pair_none (before ++ x ∷ []) q (ap (mate_name (before ++ x ∷ [])) e.mate)) ∙ (append-nil (pairs_of (before ++ x ∷ [])) ∙ pairs_of-push before x)) in
-    let alone : pairs_of (before ++ q ∷ []) ≡ P = pairs_of-push before q ∙ (ap (λ l. P ++ l) (pair_none before q (ap (mate_name before) e.mate)) ∙ append-nil P) in
+    ∙ (ap (λ l. pairs_of (before ++ x ∷ []) ++ l) (pair_none (before ++ x ∷ []) q refl (ap (mate_name (before ++ x ∷ [])) e.mate)) ∙ (append-nil (pairs_of (before ++ x ∷ [])) ∙ pairs_of-push before x)) in
+    let alone : pairs_of (before ++ q ∷ []) ≡ P = pairs_of-push before q ∙ (ap (λ l. P ++ l) (pair_none before q refl (ap (mate_name before) e.mate)) ∙ append-nil P) in
     let two : pairs_of ((before ++ q ∷ []) ++ x ∷ []) ≡ P ++ pair_of before x =
     pairs_of-push (before ++ q ∷ []) x
     ∙ (ap (λ l. l ++ pair_of (before ++ q ∷ []) x) alone
@@ -432,5 +433,5 @@ enter_later next n before me call x after i halts room =
     free_due n front me call (record { halts = halts; full = room; own = subst H (sym seen) (enter_halt n front me own call i.is.enters free) }) in
     let e = enter_event n before me call i.is.enters i.is.none in
     let f = enter_event n front me call i.is.enters none in
-    let E : Reply → Option ℕ → Event = λ r m. record { rank = me; call = call; reply = r; mate = m } in
+    let E : Reply → Option ℕ → Event = λ r m. record { rank = me; call = call; reply = r; mate = m; met = [] } in
     ap (λ r. E r (picked_mate front me call (picked_reply n front me call First) First)) (f.reply ∙ sym e.reply) ∙ ap (E (picked_reply n before me call First)) (f.mate ∙ sym e.mate)

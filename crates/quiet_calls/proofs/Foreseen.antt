@@ -12,7 +12,7 @@ use Rattle.mpi_call.specs.Lists.{IsIn}
 use Rattle.run_model.specs.declared.event.Event.{Event}
 use Rattle.run_model.specs.Due.{halt_of_reply, halted, is_mismatched, or_else}
 use Rattle.run_model.specs.Lists.{Along}
-use Rattle.run_model.specs.Run.{IsEvent}
+use Rattle.run_model.specs.Run.{IsPromptEvent}
 use Rattle.run_model.specs.Serial.{call_after}
 use Rattle.run_model.specs.Views.{Next, View, replies_in, view_of}
 use Rattle.run_model.proofs.Along.{Along-back, Along-snoc}
@@ -222,7 +222,7 @@ step_other next output n lawful races most futures one me call q h p x i room b 
     (record {
       good = front.good;
       first = put.there;
-      step = (Along-back (IsEvent next n) [] base (x ∷ []) after.good.run.along).0;
+      step = (Along-back (IsPromptEvent next n) [] base (x ∷ []) after.good.run.along).0;
       ordered = (Along-back (IsNumberedInOrder n) [] base (x ∷ []) after.good.numbered).0;
       apart = apart;
       calm = subst C all i.calm;
@@ -312,7 +312,7 @@ calm_on : (next : Next) (n most : ℕ) (races : Races) (one p : List Event) (x :
     → is_calm races (one ++ p) ≡ true → is_calm races (one ++ (p ++ x ∷ [])) ≡ true
 calm_on next n most races one p x g foreseen calm =
     let after : GoesOn next n most (one ++ p) (x ∷ []) = goes_back next n most one p (x ∷ []) g in
-    let step : IsEvent next n (one ++ p) x = (Along-back (IsEvent next n) [] (one ++ p) (x ∷ []) after.good.run.along).0 in
+    let step : IsPromptEvent next n (one ++ p) x = (Along-back (IsPromptEvent next n) [] (one ++ p) (x ∷ []) after.good.run.along).0 in
     ap (is_calm races) (sym (append_assoc one p (x ∷ [])))
     ∙ calm_put races (one ++ p) x [] calm (foreseen.calls x.rank x.call step.rank step.call) (or_right (is_some (halt_of_reply x.reply)) true refl)
 
@@ -330,7 +330,7 @@ step_agreed next output n races most futures one me call q h p x g foreseen agre
     let base : List Event = one ++ p in
     let own : View = view_of one me in
     let after : GoesOn next n most base (x ∷ []) = goes_back next n most one p (x ∷ []) g in
-    let step : IsEvent next n base x = (Along-back (IsEvent next n) [] base (x ∷ []) after.good.run.along).0 in
+    let step : IsPromptEvent next n base x = (Along-back (IsPromptEvent next n) [] base (x ∷ []) after.good.run.along).0 in
     let whole : races.partial ≡ false = quiet_enter races call h.first.kind enters in
     let here : is_mismatched n base own call ≡ false = agreed enters in
     ap (λ l. is_mismatched n l own call) (sym (append_assoc one p (x ∷ [])))
@@ -380,7 +380,7 @@ step_seen next output n lawful races most futures one me call q h p x g s =
       agreed = λ enters. ap (λ l. is_mismatched n (one ++ l) (view_of one me) call) (append-nil p) ∙ s.agreed enters;
     }) in
     let own : (put : IsPutIn next n races one p b.rest me call q) → (x.rank == me) ≡ true → x ≡ put.last =
-    λ put t. own_first next n lawful races (one ++ p) me call put.last x front.good put.there (Along-back (IsEvent next n) [] (one ++ p) (x ∷ []) after.good.run.along).0
+    λ put t. own_first next n lawful races (one ++ p) me call put.last x front.good put.there (Along-back (IsPromptEvent next n) [] (one ++ p) (x ∷ []) after.good.run.along).0
     (Along-back (IsNumberedInOrder n) [] (one ++ p) (x ∷ []) after.good.numbered).0 (eqb-true x.rank me t) in
     let goes : (put : IsPutIn next n races one p b.rest me call q) → GoesOn next n most one (p ++ put.last ∷ []) =
     λ put. put_goes next n lawful races most one p b.rest me call q front s.calm put in

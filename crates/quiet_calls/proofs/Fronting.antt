@@ -10,10 +10,11 @@ use Rattle.run_model.specs.declared.event.Event.{Event}
 use Rattle.run_model.specs.Chosen.{order_of}
 use Rattle.run_model.specs.Due.{halted, is_mismatched, size_of, size_of_reply}
 use Rattle.run_model.specs.Lists.{Along}
-use Rattle.run_model.specs.Run.{IsEvent}
+use Rattle.run_model.specs.Run.{IsPromptEvent}
 use Rattle.run_model.specs.Views.{Next, View, view_of}
 use Rattle.run_model.proofs.Along.{Along-back, Along-front}
-use Rattle.run_model.proofs.RunLaws.{IsRun-front, Lawful}
+use Rattle.run_model.proofs.Prompt.{IsPromptRun-front}
+use Rattle.run_model.proofs.RunLaws.{Lawful}
 use Rattle.run_model.proofs.Views.{test_cases, view_of-other}
 use Rattle.picked_runs.specs.Numbering.{IsNumberedInOrder}
 use Rattle.srr_entry.specs.Outputs.{Output}
@@ -31,7 +32,7 @@ use Rattle.quiet_calls.proofs.Diamond.{IsBesideFirst, IsDiamond, IsFirst, diamon
 
 pub good_front : (next : Next) (n : ℕ) (xs ys : List Event) → IsGood next n (xs ++ ys) → IsGood next n xs
 good_front next n xs ys good =
-    record { run = IsRun-front next n xs ys good.run; numbered = Along-front (IsNumberedInOrder n) [] xs ys good.numbered }
+    record { run = IsPromptRun-front next n xs ys good.run; numbered = Along-front (IsNumberedInOrder n) [] xs ys good.numbered }
 
 pub same_as : (n : ℕ) (a b c d : List Event) → a ≡ c → b ≡ d → SameFuture n a b → SameFuture n c d
 same_as n a b c d p q same =
@@ -117,7 +118,7 @@ at_own : (next : Next) (n : ℕ) → Lawful next → (races : Races) (root front
     → x.rank ≡ me → GoesBehind next n races root (x ∷ front) me call q
 at_own next n lawful races root front tail x me call q at own =
     let good : IsGood next n root = good_front next n root (x ∷ front) at.good in
-    let steps = Along-back (IsEvent next n) [] root (x ∷ front) at.good.run.along in
+    let steps = Along-back (IsPromptEvent next n) [] root (x ∷ front) at.good.run.along in
     let ordered = Along-back (IsNumberedInOrder n) [] root (x ∷ front) at.good.numbered in
     let same : x ≡ q = own_first next n lawful races root me call q x good at.first steps.0 ordered.0 own in
     let G : Event → Type 0 = λ e. IsGood next n (root ++ e ∷ front) in
@@ -141,7 +142,7 @@ beside_at next n races root front tail x me call q at apart =
     record {
       good = good_front next n root (x ∷ front) at.good;
       first = at.first;
-      step = (Along-back (IsEvent next n) [] root (x ∷ front) at.good.run.along).0;
+      step = (Along-back (IsPromptEvent next n) [] root (x ∷ front) at.good.run.along).0;
       ordered = (Along-back (IsNumberedInOrder n) [] root (x ∷ front) at.good.numbered).0;
       apart = apart;
       calm = at.calm;

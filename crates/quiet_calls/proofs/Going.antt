@@ -9,7 +9,7 @@ use Rattle.mpi_call.specs.declared.call.Tag.{Tag}
 use Rattle.mpi_call.specs.declared.call.TakeMode.{TakeMode}
 use Rattle.mpi_call.specs.declared.reply.Reply.{Reply}
 use Rattle.run_model.specs.declared.event.Event.{Event}
-use Rattle.run_model.specs.Allowed.{IsAllowed, IsAllowedBy, IsAnswer, IsHeld, IsPeekAnswer, IsStuck, IsTakeAnswer, can_go, flags_of, has_open, mode_holds, is_prompt, probe_of}
+use Rattle.run_model.specs.Allowed.{IsPrompt, IsAllowedBy, IsAnswer, IsHeld, IsPeekAnswer, IsStuck, IsTakeAnswer, can_go, flags_of, has_open, mode_holds, is_prompt, probe_of}
 use Rattle.run_model.specs.Due.{due}
 use Rattle.run_model.specs.Shape.{is_test}
 use Rattle.run_model.specs.Views.{Next, View, moment_of, view_of}
@@ -50,7 +50,7 @@ answer_goes stuck n before me own (Abort code) reply is = inl refl
 answer_goes stuck n before me own (Trap fault) reply is = inl refl
 answer_goes stuck n before me own End reply is = inl refl
 
-pub allowed_goes : (next : Next) (n : ℕ) (before : List Event) (me : ℕ) (call : Call) (reply : Reply) → IsAllowed next n before me call reply
+pub allowed_goes : (next : Next) (n : ℕ) (before : List Event) (me : ℕ) (call : Call) (reply : Reply) → IsPrompt next n before me call reply
     → (can_go n before me (view_of before me) call ≡ true) ⊎ IsStuck next n before
 allowed_goes next n before me call reply is =
     let own : View = view_of before me in

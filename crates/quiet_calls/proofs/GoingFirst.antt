@@ -8,7 +8,7 @@ use Rattle.mpi_call.specs.declared.reply.Reply.TheVariants.{Done, Stopped}
 use Rattle.run_model.specs.declared.event.Event.{Event}
 use Rattle.run_model.specs.Due.{halt_of_reply, halted, is_full, or_else, size_of, is_mismatched}
 use Rattle.run_model.specs.Lists.{Along}
-use Rattle.run_model.specs.Run.{IsEvent, IsRun}
+use Rattle.run_model.specs.Run.{IsPromptEvent, IsPromptRun}
 use Rattle.run_model.specs.Serial.{call_after}
 use Rattle.run_model.specs.Views.{Next, View, replies_in, view_of}
 use Rattle.run_model.proofs.Along.{Along-back, Along-front}
@@ -137,7 +137,7 @@ carried next output n futures root q rest now tail good ended first future probe
     let like : HasLike next output n now (root ++ q ∷ rest) tail = futures now (root ++ q ∷ rest) tail good.run good.numbered first.run first.numbered future in
     let last : List Event = rest ++ like.rest in
     let whole : (root ++ q ∷ rest) ++ like.rest ≡ root ++ q ∷ last = append_assoc root (q ∷ rest) like.rest in
-    let R : List Event → Type 0 = λ l. IsRun next n l in
+    let R : List Event → Type 0 = λ l. IsPromptRun next n l in
     let N : List Event → Type 0 = λ l. AreNumberedInOrder n l in
     let views : (rank : ℕ) → view_of (now ++ tail) rank ≡ view_of (root ++ q ∷ last) rank = λ rank. like.future.views rank ∙ ap (λ l. view_of l rank) whole in
     record {
@@ -195,7 +195,7 @@ stop_probe before x halt stopped earlier comm source tag wait room sender start 
 
 -- the rank's own event is no halt, so the halt is another rank's
 halt_apart : (next : Next) (n : ℕ) → Lawful next → (races : Races) (base : List Event) (me : ℕ) (call : Call) (q x : Event) (halt : Halt) → IsGood next n base
-    → IsFirst next n races base me call q → IsEvent next n base x → IsNumberedInOrder n base x → x.reply ≡ Stopped halt → (x.rank == me) ≡ false
+    → IsFirst next n races base me call q → IsPromptEvent next n base x → IsNumberedInOrder n base x → x.reply ≡ Stopped halt → (x.rank == me) ≡ false
 halt_apart next n lawful races base me call q x halt good first step ordered stopped =
     false_from_ne_true (x.rank == me) (λ t.
     let same : x ≡ q = own_first next n lawful races base me call q x good first step ordered (eqb-true x.rank me t) in
@@ -219,7 +219,7 @@ halted_behind : (next : Next) (output : Output) (n : ℕ) → Lawful next → Ha
 halted_behind next output n lawful decide races base x after me call q halt b =
     let behind : List Event = base ++ q ∷ [] in
     let good : IsGood next n base = good_front next n base (x ∷ after) b.all in
-    let steps = Along-back (IsEvent next n) [] base (x ∷ after) b.all.run.along in
+    let steps = Along-back (IsPromptEvent next n) [] base (x ∷ after) b.all.run.along in
     let ordered = Along-back (IsNumberedInOrder n) [] base (x ∷ after) b.all.numbered in
     let apart : (x.rank == me) ≡ false = halt_apart next n lawful races base me call q x halt good b.first steps.0 ordered.0 b.stopped in
     let own : q.rank ≡ me = ap (λ (e : Event). e.rank) (sym b.first.event) in
@@ -330,7 +330,7 @@ put_first next output n lawful futures decide races root front x after rest me c
     let own_q : q.rank ≡ me = ap (λ (e : Event). e.rank) (sym start.event) in
     let halted_here : halt_of_reply x.reply ≡ Some halt = ap halt_of_reply stopped in
     let apart : (x.rank == me) ≡ false =
-    halt_apart next n lawful races base me call last x halt (good_front next n base (x ∷ after) good) put.there (Along-back (IsEvent next n) [] base (x ∷ after) is.run.along).0
+    halt_apart next n lawful races base me call last x halt (good_front next n base (x ∷ after) good) put.there (Along-back (IsPromptEvent next n) [] base (x ∷ after) is.run.along).0
     (Along-back (IsNumberedInOrder n) [] base (x ∷ after) is.numbered).0 stopped in
     let count : length c.last ≡ length rest + suc (length h.fin) = c.count in
     let less : length rest ≡ length front = put.count in

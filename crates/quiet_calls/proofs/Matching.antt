@@ -5,7 +5,7 @@ use Rattle.mpi_call.specs.declared.call.Call.{Call}
 use Rattle.mpi_call.specs.Calls.{is_starting}
 use Rattle.run_model.specs.declared.event.Event.{Event}
 use Rattle.run_model.specs.Choice.{choice, suits}
-use Rattle.run_model.specs.Pairs.{AreMatched, IsMatched, Name, name_at, named, pair_with, pairs_of, partner_of}
+use Rattle.run_model.specs.Pairs.{AreAllMatched, IsAllMatched, Name, name_at, named, pair_with, pairs_of, partner_of}
 use Rattle.run_model.specs.Views.{is_done, is_start}
 use Rattle.run_model.proofs.Choosing.{IsChoiceAt, IsOpenAt, choice_none, choice_some}
 use Rattle.run_model.proofs.Positions.{name_at-lower, name_position, new_name}
@@ -23,17 +23,17 @@ open_at before me call name start made free suited =
     let place = name_position before name start made in
     (place.0, record { name = name; start = start; there = place.1; made = made; free = free; suited = suited }, refl)
 
-alone_matched : (before : List Event) (event : Event) → IsMatched before → is_start (event.call, event.reply) ≡ true → event.mate ≡ None
-    → choice before event.rank event.call ≡ None → IsMatched (before ++ event ∷ [])
-alone_matched before event matched starts mate none =
+alone_matched : (before : List Event) (event : Event) → IsAllMatched before → is_start (event.call, event.reply) ≡ true → event.mate ≡ None → event.met ≡ []
+    → choice before event.rank event.call ≡ None → IsAllMatched (before ++ event ∷ [])
+alone_matched before event matched starts mate none_met none =
     let M : Name → Option Call = named (before ++ event ∷ []) in
     let P : List (Name × Name) = pairs_of before in
     let new : Name = new_name before event in
     let grows = Grows-event before event starts in
     let at = named-new before event starts in
-    let F : List (Name × Name) → Type 0 = λ l. AreMatched M l in
+    let F : List (Name × Name) → Type 0 = λ l. AreAllMatched M l in
     let pairs : pairs_of (before ++ event ∷ []) ≡ P =
-    pairs_of-push before event ∙ (ap (λ l. P ++ l) (pair_is before event ∙ ap (λ m. pair_with (mate_name before m) new) mate) ∙ append-nil P) in
+    pairs_of-push before event ∙ (ap (λ l. P ++ l) (pair_is before event none_met ∙ ap (λ m. pair_with (mate_name before m) new) mate) ∙ append-nil P) in
     subst F (sym pairs) (AreMatched-alone (named before) M P new matched grows (λ other takes free.
     let c = met M other new takes in
     elim (grows.back other c.0 c.1) [
@@ -44,9 +44,9 @@ alone_matched before event matched starts mate none =
           choice_none before event.rank event.call none o.0 o.1
     ]))
 
-paired_matched : (before : List Event) (event : Event) (at : ℕ) → IsMatched before → is_start (event.call, event.reply) ≡ true → event.mate ≡ Some at
-    → IsChoiceAt before event.rank event.call at → IsMatched (before ++ event ∷ [])
-paired_matched before event at matched starts mate c =
+paired_matched : (before : List Event) (event : Event) (at : ℕ) → IsAllMatched before → is_start (event.call, event.reply) ≡ true → event.mate ≡ Some at → event.met ≡ []
+    → IsChoiceAt before event.rank event.call at → IsAllMatched (before ++ event ∷ [])
+paired_matched before event at matched starts mate none_met c =
     let N : Name → Option Call = named before in
     let M : Name → Option Call = named (before ++ event ∷ []) in
     let P : List (Name × Name) = pairs_of before in
@@ -56,10 +56,10 @@ paired_matched before event at matched starts mate c =
     let starting : is_starting event.call ≡ true = (and_parts (is_starting event.call) (is_done event.reply) starts).0 in
     let grows = Grows-event before event starts in
     let new_at = named-new before event starts in
-    let F : List (Name × Name) → Type 0 = λ l. AreMatched M l in
+    let F : List (Name × Name) → Type 0 = λ l. AreAllMatched M l in
     let one : mate_name before event.mate ≡ Some old = ap (mate_name before) mate ∙ o.there in
     let pairs : pairs_of (before ++ event ∷ []) ≡ P ++ (old, new) ∷ [] =
-    pairs_of-push before event ∙ ap (λ l. P ++ l) (pair_is before event ∙ ap (λ m. pair_with m new) one) in
+    pairs_of-push before event ∙ ap (λ l. P ++ l) (pair_is before event none_met ∙ ap (λ m. pair_with m new) one) in
     subst F (sym pairs) (AreMatched-paired N M P old new matched grows (record {
       call = o.start;
       there = o.made;
@@ -79,10 +79,10 @@ paired_matched before event at matched starts mate c =
       ];
     }))
 
-pub matched_chosen : (before : List Event) (event : Event) → IsMatched before → is_start (event.call, event.reply) ≡ true
-    → event.mate ≡ choice before event.rank event.call → IsMatched (before ++ event ∷ [])
-matched_chosen before event matched starts mate =
+pub matched_chosen : (before : List Event) (event : Event) → IsAllMatched before → is_start (event.call, event.reply) ≡ true
+    → event.mate ≡ choice before event.rank event.call → event.met ≡ [] → IsAllMatched (before ++ event ∷ [])
+matched_chosen before event matched starts mate none_met =
     elim (option_cases (choice before event.rank event.call)) [
-      | inl some ↦ paired_matched before event some.0 matched starts (mate ∙ some.1) (choice_some before event.rank event.call some.0 some.1)
-      | inr none ↦ alone_matched before event matched starts (mate ∙ none) none
+      | inl some ↦ paired_matched before event some.0 matched starts (mate ∙ some.1) none_met (choice_some before event.rank event.call some.0 some.1)
+      | inr none ↦ alone_matched before event matched starts (mate ∙ none) none_met none
     ]

@@ -5,7 +5,7 @@ use Rattle.std.proofs.lemmas.Bool.{false_from_ne_true}
 use Rattle.mpi_call.specs.declared.call.Call.{Call}
 use Rattle.run_model.specs.declared.event.Event.{Event}
 use Rattle.run_model.specs.Choice.{choice, suits}
-use Rattle.run_model.specs.Pairs.{IsMatched, Name, name_at, named, pair_of, pair_with, pairs_of, partner_of, same_name}
+use Rattle.run_model.specs.Pairs.{IsAllMatched, Name, name_at, named, pair_of, pair_with, pairs_of, partner_of, same_name}
 use Rattle.run_model.specs.Views.{is_start, starts_of, view_of}
 use Rattle.run_model.proofs.Choosing.{IsOpenAt, choice_is, choice_none, choice_some}
 use Rattle.run_model.proofs.Positions.{name_at-below, name_position, new_name}
@@ -27,17 +27,17 @@ pub not_same : (a b : Name) → (a ≡ b → ⊥) → same_name a b ≡ false
 not_same a b apart = false_from_ne_true (same_name a b) (λ t. apart (same_name-true a b t))
 
 -- another start is as free as it was
-pub free_on : (before : List Event) (event : Event) (name : Name) → partner_of (pairs_of before) name ≡ None → (mate_name before event.mate ≡ Some name → ⊥)
+pub free_on : (before : List Event) (event : Event) (name : Name) → event.met ≡ [] → partner_of (pairs_of before) name ≡ None → (mate_name before event.mate ≡ Some name → ⊥)
     → (new_name before event ≡ name → ⊥) → partner_of (pairs_of (before ++ event ∷ [])) name ≡ None
-free_on before event name free other new =
+free_on before event name none_met free other new =
     let P : List (Name × Name) = pairs_of before in
     let last : partner_of (pair_of before event) name ≡ None = elim (option_cases (mate_name before event.mate)) [
       | inl some ↦
-          let one : pair_of before event ≡ (some.0, new_name before event) ∷ [] = pair_is before event ∙ ap (λ m. pair_with m (new_name before event)) some.1 in
+          let one : pair_of before event ≡ (some.0, new_name before event) ∷ [] = pair_is before event none_met ∙ ap (λ m. pair_with m (new_name before event)) some.1 in
           let apart : same_name some.0 name ≡ false = not_same some.0 name (λ e. other (some.1 ∙ ap (λ (x : Name). Some x) e)) in
           let beside : same_name (new_name before event) name ≡ false = not_same (new_name before event) name new in
           ap (λ l. partner_of l name) one ∙ rw (apart, beside) refl
-      | inr none ↦ ap (λ l. partner_of l name) (pair_is before event ∙ ap (λ m. pair_with m (new_name before event)) none)
+      | inr none ↦ ap (λ l. partner_of l name) (pair_is before event none_met ∙ ap (λ m. pair_with m (new_name before event)) none)
     ] in
     ap (λ l. partner_of l name) (pairs_of-push before event) ∙ (partner_of-past P (pair_of before event) name free ∙ last)
 
@@ -59,9 +59,9 @@ new_apart before event name start made same =
     let no : None ≡ Some start = sym none ∙ (ap (named before) same ∙ made) in
     cc
 
-pub open_stays : (before : List Event) (event : Event) (me : ℕ) (call : Call) (at : ℕ) → TakesNone before event me call → IsOpenAt before me call at
+pub open_stays : (before : List Event) (event : Event) (me : ℕ) (call : Call) (at : ℕ) → event.met ≡ [] → TakesNone before event me call → IsOpenAt before me call at
     → IsOpenAt (before ++ event ∷ []) me call at
-open_stays before event me call at none o =
+open_stays before event me call at none_met none o =
     let apart : mate_name before event.mate ≡ Some o.name → ⊥ = λ h. none o.name o.start h o.made o.suited in
     let new : new_name before event ≡ o.name → ⊥ = λ e. new_apart before event o.name o.start o.made e in
     record {
@@ -69,7 +69,7 @@ open_stays before event me call at none o =
       start = o.start;
       there = name_on before (event ∷ []) at o.name o.there;
       made = named_on before (event ∷ []) o.name o.start o.made;
-      free = free_on before event o.name o.free apart new;
+      free = free_on before event o.name none_met o.free apart new;
       suited = o.suited;
     }
 
@@ -114,20 +114,20 @@ mate_apart before event old starts mate same =
       | inr none ↦ (let no : None ≡ Some old = sym (ap (mate_name before) none) ∙ mate in absurd (cc))
     ]
 
-taken_new : (before : List Event) (event : Event) (old : Name) → mate_name before event.mate ≡ Some old → partner_of (pairs_of before) (new_name before event) ≡ None
+taken_new : (before : List Event) (event : Event) (old : Name) → event.met ≡ [] → mate_name before event.mate ≡ Some old → partner_of (pairs_of before) (new_name before event) ≡ None
     → (old ≡ new_name before event → ⊥) → partner_of (pairs_of (before ++ event ∷ [])) (new_name before event) ≡ None → ⊥
-taken_new before event old mate free apart h =
+taken_new before event old none_met mate free apart h =
     let new : Name = new_name before event in
     let P : List (Name × Name) = pairs_of before in
-    let one : pair_of before event ≡ (old, new) ∷ [] = pair_is before event ∙ ap (λ m. pair_with m new) mate in
+    let one : pair_of before event ≡ (old, new) ∷ [] = pair_is before event none_met ∙ ap (λ m. pair_with m new) mate in
     let there : partner_of (pairs_of (before ++ event ∷ [])) new ≡ Some old =
     ap (λ l. partner_of l new) (pairs_of-push before event) ∙ (ap (λ l. partner_of (P ++ l) new) one ∙ new_partner P old new free apart) in
     let no : Some old ≡ None = sym there ∙ h in
     cc
 
-pub open_from : (before : List Event) (event : Event) (me : ℕ) (call : Call) (at : ℕ) → IsMatched before → IsOpenAt (before ++ event ∷ []) me call at
+pub open_from : (before : List Event) (event : Event) (me : ℕ) (call : Call) (at : ℕ) → IsAllMatched before → event.met ≡ [] → IsOpenAt (before ++ event ∷ []) me call at
     → IsOpenAt before me call at ⊎ IsOpenNew before event me call at
-open_from before event me call at matched o =
+open_from before event me call at matched none_met o =
     elim (named_from before event o.name o.start o.made) [
       | inl was ↦
           let place = name_position before o.name o.start was in
@@ -150,7 +150,7 @@ open_from before event me call at matched o =
             starts = t;
             suited = subst R (sym rank) (subst C (sym new.2) o.suited);
             alone = elim (option_cases (mate_name before event.mate)) [
-              | inl some ↦ absurd (taken_new before event some.0 some.1 (new_free (named before) (named (before ++ event ∷ [])) (pairs_of before) (new_name before event) matched grows)
+              | inl some ↦ absurd (taken_new before event some.0 none_met some.1 (new_free (named before) (named (before ++ event ∷ [])) (pairs_of before) (new_name before event) matched grows)
                   (λ e. mate_apart before event some.0 t some.1 e) free)
               | inr none ↦ none
             ];
@@ -166,17 +166,17 @@ pub record IsNewChoice (before : List Event) (event : Event) (me : ℕ) (call : 
   pub suited : suits me call event.rank event.call ≡ true
   pub alone : mate_name before event.mate ≡ None
 
-pub choice_behind : (before : List Event) (event : Event) (me : ℕ) (call : Call) → IsMatched before → TakesNone before event me call
+pub choice_behind : (before : List Event) (event : Event) (me : ℕ) (call : Call) → IsAllMatched before → event.met ≡ [] → TakesNone before event me call
     → (choice (before ++ event ∷ []) me call ≡ choice before me call) ⊎ IsNewChoice before event me call
-choice_behind before event me call matched none =
+choice_behind before event me call matched none_met none =
     let after : List Event = before ++ event ∷ [] in
     elim (option_cases (choice before me call)) [
       | inl some ↦
           let c = choice_some before me call some.0 some.1 in
           inl (choice_is after me call some.0
           (record {
-            chosen = open_stays before event me call some.0 none c.chosen;
-            first = λ other o. elim (open_from before event me call other matched o) [
+            chosen = open_stays before event me call some.0 none_met none c.chosen;
+            first = λ other o. elim (open_from before event me call other matched none_met o) [
               | inl was ↦ c.first other was
               | inr new ↦
                   let below : some.0 < length before = name_at-below before some.0 c.chosen.name c.chosen.there in
@@ -188,7 +188,7 @@ choice_behind before event me call matched none =
       | inr free ↦ elim (option_cases (choice after me call)) [
         | inl new ↦
             let c = choice_some after me call new.0 new.1 in
-            elim (open_from before event me call new.0 matched c.chosen) [
+            elim (open_from before event me call new.0 matched none_met c.chosen) [
               | inl was ↦ absurd (choice_none before me call free new.0 was)
               | inr is ↦ inr (record { was = free; now = new.1 ∙ ap (λ (x : ℕ). Some x) is.place; starts = is.starts; suited = is.suited; alone = is.alone })
             ]

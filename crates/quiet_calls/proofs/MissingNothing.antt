@@ -9,7 +9,7 @@ use Rattle.mpi_call.specs.Lists.{IsIn}
 use Rattle.run_model.specs.declared.event.Event.{Event}
 use Rattle.run_model.specs.Due.{halt_of_reply, halted, is_full, is_mismatched, or_else}
 use Rattle.run_model.specs.Lists.{Along}
-use Rattle.run_model.specs.Run.{IsEvent, IsRun}
+use Rattle.run_model.specs.Run.{IsPromptEvent, IsPromptRun}
 use Rattle.run_model.specs.Views.{Next, View, replies_in, view_of}
 use Rattle.run_model.proofs.Along.{Along-back, Along-front}
 use Rattle.run_model.proofs.RunLaws.{Lawful}
@@ -146,9 +146,9 @@ whole_calm next n races most one more foreseen past whole goes =
           let f : HasFirstHalt more some.0 = first_halt more some.0 some.1 in
           let front : List Event = one ++ before_halt more in
           let same : one ++ more ≡ front ++ f.event ∷ f.after = up_to_halt one more some.0 f in
-          let R : List Event → Type 0 = λ l. IsRun next n l in
-          let run : IsRun next n (front ++ f.event ∷ f.after) = subst R same whole.run in
-          let step : IsEvent next n front f.event = (Along-back (IsEvent next n) [] front (f.event ∷ f.after) run.along).0 in
+          let R : List Event → Type 0 = λ l. IsPromptRun next n l in
+          let run : IsPromptRun next n (front ++ f.event ∷ f.after) = subst R same whole.run in
+          let step : IsPromptEvent next n front f.event = (Along-back (IsPromptEvent next n) [] front (f.event ∷ f.after) run.along).0 in
           ap (is_calm races) same
           ∙ calm_put races front f.event f.after calm ((foreseen (before_halt more) goes).calls f.event.rank f.event.call step.rank step.call)
           (or_left (is_some (halt_of_reply f.event.reply)) (is_calm races f.after) (ap is_some f.here))
@@ -164,9 +164,9 @@ whole_agreed next n one more own call whole agreed free enters =
           let f : HasFirstHalt more some.0 = first_halt more some.0 some.1 in
           let front : List Event = one ++ before_halt more in
           let same : one ++ more ≡ front ++ f.event ∷ f.after = up_to_halt one more some.0 f in
-          let R : List Event → Type 0 = λ l. IsRun next n l in
-          let run : IsRun next n (front ++ f.event ∷ f.after) = subst R same whole.run in
-          let steps = Along-back (IsEvent next n) [] front (f.event ∷ f.after) run.along in
+          let R : List Event → Type 0 = λ l. IsPromptRun next n l in
+          let run : IsPromptRun next n (front ++ f.event ∷ f.after) = subst R same whole.run in
+          let steps = Along-back (IsPromptEvent next n) [] front (f.event ∷ f.after) run.along in
           let halts : halted (front ++ f.event ∷ []) ≡ Some some.0 = halted_more front f.event ∙ (ap (λ o. or_else o (halt_of_reply f.event.reply)) free ∙ f.here) in
           ap (λ l. is_mismatched n l own call) (same ∙ sym (append_assoc front (f.event ∷ []) f.after))
           ∙ agreed_tail next n some.0 own call (front ++ f.event ∷ []) f.after steps.1 halts

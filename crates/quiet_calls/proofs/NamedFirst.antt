@@ -13,13 +13,14 @@ use Rattle.run_model.specs.Allowed.{IsStuck, can_go, has_open, is_prompt}
 use Rattle.run_model.specs.Choice.{choice, suits}
 use Rattle.run_model.specs.Chosen.{message_of_pair, message_of}
 use Rattle.run_model.specs.Due.{due, halt_of_reply, halted, is_full, or_else}
-use Rattle.run_model.specs.Pairs.{IsMatched, Name, named, pairs_of, partner_of}
+use Rattle.run_model.specs.Pairs.{IsAllMatched, Name, named, pairs_of, partner_of}
 use Rattle.run_model.specs.Serial.{call_after}
 use Rattle.run_model.specs.Views.{Next, View, is_start, view_of}
 use Rattle.run_model.proofs.Choosing.{choice_some}
 use Rattle.run_model.proofs.ChosenProbes.{peek_missed, peek_there}
 use Rattle.run_model.proofs.Origins.{AllBelow}
-use Rattle.run_model.proofs.RunLaws.{Lawful, kept_run}
+use Rattle.run_model.proofs.Prompt.{kept_prompt}
+use Rattle.run_model.proofs.RunLaws.{Lawful}
 use Rattle.run_model.proofs.Views.{option_cases, test_cases, view_of-other}
 use Rattle.picked_runs.specs.declared.turn.Pick.{Pick}
 use Rattle.picked_runs.specs.declared.turn.Pick.TheVariants.{First}
@@ -144,7 +145,7 @@ pub named_first_run : (next : Next) (n : ℕ) → Lawful next → (before : List
 named_first_run next n lawful before me call w good is =
     let e = named_event n before me call w is.names is.none in
     step_on next n lawful before me call First good is.below is.asked refl (inl (named_goes next n before me call w is))
-    (matched_chosen before (picked_event n before me call First) (kept_run next n before lawful good.run).matched e.starts e.mate)
+    (matched_chosen before (picked_event n before me call First) (kept_prompt next n before lawful good.run).matched e.starts e.mate refl)
 
 pub named_halts : (n : ℕ) (before : List Event) (me : ℕ) (call : Call) (w : ℕ) → other_of call ≡ Some w → due n before me (view_of before me) call ≡ None
     → halted (before ++ picked_event n before me call First ∷ []) ≡ halted before
@@ -162,7 +163,7 @@ open_by n one other all all' me comm source tag same =
       | inr none ↦ peek_missed n one me comm source tag true (same ∙ none) ∙ sym (peek_missed n other me comm source tag true none)
     ]
 
-given_on : (before : List Event) (event : Event) (name : Name) → IsMatched before
+given_on : (before : List Event) (event : Event) (name : Name) → IsAllMatched before
     → message_of (before ++ event ∷ []) (partner_of (pairs_of before) name) ≡ message_of before (partner_of (pairs_of before) name)
 given_on before event name matched =
     elim (option_cases (partner_of (pairs_of before) name)) [
@@ -179,11 +180,11 @@ pub leaves_others : (next : Next) (n : ℕ) → Lawful next → (before : List E
 leaves_others next n lawful before me call w good is full p apart other =
     let q : Event = picked_event n before me call First in
     let after : List Event = before ++ q ∷ [] in
-    let kept = kept_run next n before lawful good.run in
-    let kept' = kept_run next n after lawful (named_first_run next n lawful before me call w good is).run in
+    let kept = kept_prompt next n before lawful good.run in
+    let kept' = kept_prompt next n after lawful (named_first_run next n lawful before me call w good is).run in
     let beside : me ≡ p → ⊥ = λ e. (let no : true ≡ false = sym (eq-eqb me p e) ∙ apart in cc) in
     let choices : (d : Call) → choice after p d ≡ choice before p d =
-    λ d. elim (choice_behind before q p d kept.matched (takes_apart n before me call w is.names is.none is.plain p d beside)) [
+    λ d. elim (choice_behind before q p d kept.matched refl (takes_apart n before me call w is.names is.none is.plain p d beside)) [
       | inl same ↦ same
       | inr new ↦ absurd (other (other_suits p d me call w is.names new.suited))
     ] in
@@ -193,7 +194,7 @@ leaves_others next n lawful before me call w good is full p apart other =
       full = full;
       enters = λ comm instance m. enters_off n before q (λ c. named_off c call w is.names) comm instance m;
       made = made_off n before q (λ gathered instance. named_makes gathered instance call w is.names);
-      paired = λ k. partner_beside before q (p, k) (pair_other before q (p, k) (named_start n before me call w is.names is.none)
+      paired = λ k. partner_beside before q (p, k) (pair_other before q (p, k) refl (named_start n before me call w is.names is.none)
           (λ start suited. other (suits_other me call w p start is.names suited)) beside);
       given = λ k. given_on before q (p, k) kept.matched;
       choices = choices;

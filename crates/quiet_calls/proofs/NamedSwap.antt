@@ -12,13 +12,14 @@ use Rattle.run_model.specs.Allowed.{IsStuck, can_go}
 use Rattle.run_model.specs.Choice.{choice, suits}
 use Rattle.run_model.specs.Communicators.{is_on}
 use Rattle.run_model.specs.Due.{due, halt_at, halted, is_full}
-use Rattle.run_model.specs.Pairs.{IsMatched, Name, named, pairs_of, partner_of}
-use Rattle.run_model.specs.Run.{HasMate, IsEvent}
+use Rattle.run_model.specs.Pairs.{IsAllMatched, Name, named, pairs_of, partner_of}
+use Rattle.run_model.specs.Run.{HasMate, IsPromptEvent}
 use Rattle.run_model.specs.Serial.{call_after}
 use Rattle.run_model.specs.Views.{Next, View, is_done, is_start, replies_in, view_of}
 use Rattle.run_model.proofs.Choosing.{IsOpenAt, choice_none, choice_some}
 use Rattle.run_model.proofs.Positions.{new_name}
-use Rattle.run_model.proofs.RunLaws.{IsRun-event, Lawful, kept_run}
+use Rattle.run_model.proofs.Prompt.{IsPromptRun-event, kept_prompt}
+use Rattle.run_model.proofs.RunLaws.{Lawful}
 use Rattle.run_model.proofs.Views.{option_cases, test_cases, view_of-other}
 use Rattle.picked_runs.specs.declared.turn.Pick.{Pick}
 use Rattle.picked_runs.specs.declared.turn.Pick.TheVariants.{First}
@@ -46,14 +47,14 @@ use Rattle.quiet_calls.proofs.Calm.{calm_event, calmly, due_off}
 
 -- 1. a start that is open behind its own event
 
-pub open_new : (before : List Event) (event : Event) (me : ℕ) (call : Call) → IsMatched before → is_start (event.call, event.reply) ≡ true → mate_name before event.mate ≡ None
+pub open_new : (before : List Event) (event : Event) (me : ℕ) (call : Call) → IsAllMatched before → event.met ≡ [] → is_start (event.call, event.reply) ≡ true → mate_name before event.mate ≡ None
     → suits me call event.rank event.call ≡ true → IsOpenAt (before ++ event ∷ []) me call (length before)
-open_new before event me call matched starts alone suited =
+open_new before event me call matched none_met starts alone suited =
     let new : Name = new_name before event in
     let P : List (Name × Name) = pairs_of before in
     let grows = Grows-event before event starts in
     let free : partner_of P new ≡ None = new_free (named before) (named (before ++ event ∷ [])) P new matched grows in
-    let pairs : pairs_of (before ++ event ∷ []) ≡ P = pairs_of-push before event ∙ (ap (λ l. P ++ l) (pair_none before event alone) ∙ append-nil P) in
+    let pairs : pairs_of (before ++ event ∷ []) ≡ P = pairs_of-push before event ∙ (ap (λ l. P ++ l) (pair_none before event none_met alone) ∙ append-nil P) in
     record {
       name = new;
       start = event.call;
@@ -64,11 +65,11 @@ open_new before event me call matched starts alone suited =
     }
 
 -- so it is the choice, where there was none
-pub meets_new : (before : List Event) (event : Event) (me : ℕ) (call : Call) → IsMatched before → is_start (event.call, event.reply) ≡ true → mate_name before event.mate ≡ None
+pub meets_new : (before : List Event) (event : Event) (me : ℕ) (call : Call) → IsAllMatched before → event.met ≡ [] → is_start (event.call, event.reply) ≡ true → mate_name before event.mate ≡ None
     → suits me call event.rank event.call ≡ true → TakesNone before event me call → choice before me call ≡ None → choice (before ++ event ∷ []) me call ≡ Some (length before)
-meets_new before event me call matched starts alone suited none was =
-    elim (choice_behind before event me call matched none) [
-      | inl same ↦ absurd (choice_none (before ++ event ∷ []) me call (same ∙ was) (length before) (open_new before event me call matched starts alone suited))
+meets_new before event me call matched none_met starts alone suited none was =
+    elim (choice_behind before event me call matched none_met none) [
+      | inl same ↦ absurd (choice_none (before ++ event ∷ []) me call (same ∙ was) (length before) (open_new before event me call matched none_met starts alone suited))
       | inr new ↦ new.now
     ]
 
@@ -93,7 +94,7 @@ named_due n events me call w names halts full =
     free_due n events me call (record { halts = halts; full = full; own = named_halt_at n events me (view_of events me) call w names })
 
 call_with : ℕ → Call → Reply → Option ℕ → Event
-call_with me call reply mate = record { rank = me; call = call; reply = reply; mate = mate }
+call_with me call reply mate = record { rank = me; call = call; reply = reply; mate = mate; met = [] }
 
 -- it is the same but for its mate
 named_again : (n : ℕ) (before after : List Event) (me : ℕ) (call : Call) (w : ℕ) → other_of call ≡ Some w → due n before me (view_of before me) call ≡ None
@@ -102,20 +103,20 @@ named_again : (n : ℕ) (before after : List Event) (me : ℕ) (call : Call) (w 
 named_again n before after me call w names none none' mate same =
     let one = named_event n before me call w names none in
     let two = named_event n after me call w names none' in
-    let E : Reply → Option ℕ → Event = λ r m. record { rank = me; call = call; reply = r; mate = m } in
+    let E : Reply → Option ℕ → Event = λ r m. record { rank = me; call = call; reply = r; mate = m; met = [] } in
     ap (E (picked_reply n after me call First)) (two.mate ∙ same) ∙ ap (λ r. E r mate) (two.reply ∙ sym one.reply)
 
 -- 3. the event behind the call
 
 -- the other rank's
-calm_run : (next : Next) (n : ℕ) → Lawful next → (before : List Event) (q x : Event) → IsGood next n before → IsGood next n (before ++ q ∷ []) → IsEvent next n before x
+calm_run : (next : Next) (n : ℕ) → Lawful next → (before : List Event) (q x : Event) → IsGood next n before → IsGood next n (before ++ q ∷ []) → IsPromptEvent next n before x
     → IsNumberedInOrder n before x → is_racy x.call ≡ false → (q.rank == x.rank) ≡ false → ((comm : ℕ) → is_on comm q.call ≡ false) → halted (before ++ q ∷ []) ≡ halted before
     → is_full (before ++ q ∷ []) ≡ is_full before → (IsStuck next n before → ⊥) → (mate : Option ℕ)
-    → picked_mate (before ++ q ∷ []) x.rank x.call x.reply First ≡ mate → IsMatched ((before ++ q ∷ []) ++ with_mate x mate ∷ [])
+    → picked_mate (before ++ q ∷ []) x.rank x.call x.reply First ≡ mate → IsAllMatched ((before ++ q ∷ []) ++ with_mate x mate ∷ [])
     → IsGood next n ((before ++ q ∷ []) ++ with_mate x mate ∷ [])
 calm_run next n lawful before q x good first step ordered calm apart off halts full unstuck mate mated matched =
     let after : List Event = before ++ q ∷ [] in
-    let kept = kept_run next n before lawful good.run in
+    let kept = kept_prompt next n before lawful good.run in
     let pick : Pick = pick_of n before x in
     let picked : IsPickedEvent n before x pick = event_picked next n before x kept.matched kept.below step ordered in
     let was : x ≡ picked_event n before x.rank x.call First = picked.event_is ∙ calm_event n before x.rank x.call pick calm picked.offered in
@@ -127,11 +128,11 @@ calm_run next n lawful before q x good first step ordered calm apart off halts f
     ] in
     let c = calmly n before q x.rank x.call calm kept.matched (made_in next n lawful before good.run) seen same can in
     let reply : picked_reply n after x.rank x.call First ≡ x.reply = c.reply ∙ sym (ap (λ (e : Event). e.reply) was) in
-    let E : Reply → Option ℕ → Event = λ r m. record { rank = x.rank; call = x.call; reply = r; mate = m } in
+    let E : Reply → Option ℕ → Event = λ r m. record { rank = x.rank; call = x.call; reply = r; mate = m; met = [] } in
     let event : picked_event n after x.rank x.call First ≡ with_mate x mate =
-    ap (λ r. E r (picked_mate after x.rank x.call r First)) reply ∙ ap (E x.reply) mated in
+    ap (λ r. E r (picked_mate after x.rank x.call r First)) reply ∙ (ap (E x.reply) mated ∙ ap (λ (l : List (Name × Name)). record { rank = x.rank; call = x.call; reply = x.reply; mate = mate; met = l }) (sym step.alone)) in
     let asked : call_after next n after x.rank ≡ Some x.call = ap (λ (v : View). next n x.rank (replies_in v)) seen ∙ step.call in
-    let M : Event → Type 0 = λ e. IsMatched (after ++ e ∷ []) in
+    let M : Event → Type 0 = λ e. IsAllMatched (after ++ e ∷ []) in
     let G : Event → Type 0 = λ e. IsGood next n (after ++ e ∷ []) in
     subst G event (step_on next n lawful after x.rank x.call First first step.rank asked refl (inl c.goes) (subst M (sym event) matched))
 
@@ -170,7 +171,7 @@ first_picked n before x pick calm picked =
 pub record IsNamedWith (next : Next) (n : ℕ) (before : List Event) (me : ℕ) (call : Call) (w : ℕ) (x : Event) : Type 0 where
   pub good : IsGood next n before
   pub is : IsNamedAsked next n before me call w
-  pub step : IsEvent next n before x
+  pub step : IsPromptEvent next n before x
   pub ordered : IsNumberedInOrder n before x
   pub apart : (x.rank == me) ≡ false
   pub calm : x.rank ≡ w → is_racy x.call ≡ false
@@ -197,12 +198,12 @@ not_equal a b apart e = (let no : true ≡ false = sym (eq-eqb a b e) ∙ apart 
 
 -- an event that keeps its mate can be made behind the call
 same_run : (next : Next) (n : ℕ) → Lawful next → (before : List Event) (me : ℕ) (call : Call) (w : ℕ) (x : Event) → IsNamedWith next n before me call w x
-    → IsMatched ((before ++ picked_event n before me call First ∷ []) ++ x ∷ [])
+    → IsAllMatched ((before ++ picked_event n before me call First ∷ []) ++ x ∷ [])
     → (is_start (x.call, x.reply) ≡ true → choice (before ++ picked_event n before me call First ∷ []) x.rank x.call ≡ choice before x.rank x.call)
     → IsGood next n ((before ++ picked_event n before me call First ∷ []) ++ x ∷ [])
 same_run next n lawful before me call w x i matched same =
     let q : Event = picked_event n before me call First in
-    let kept = kept_run next n before lawful i.good.run in
+    let kept = kept_prompt next n before lawful i.good.run in
     let parts = free_parts n before me call i.is.none in
     let first = named_first_run next n lawful before me call w i.good i.is in
     let full : is_full (before ++ q ∷ []) ≡ is_full before = i.full ∙ sym parts.full in
@@ -238,7 +239,7 @@ beside_behind : (next : Next) (n : ℕ) → Lawful next → (before : List Event
     → choice (before ++ x ∷ []) me call ≡ choice before me call → IsBeside next n before me x (picked_event n before me call First)
 beside_behind next n lawful before me call w x i same =
     let q : Event = picked_event n before me call First in
-    let kept = kept_run next n before lawful i.good.run in
+    let kept = kept_prompt next n before lawful i.good.run in
     let e = named_event n before me call w i.is.names i.is.none in
     let first = named_first_run next n lawful before me call w i.good i.is in
     let apart : (me == x.rank) ≡ false = other_way x.rank me i.apart in
@@ -246,15 +247,15 @@ beside_behind next n lawful before me call w x i same =
     let xs : HasStart before x = picked_start n before x (pick_of n before x) picked in
     let qs : HasStart before q = named_start n before me call w i.is.names i.is.none in
     let none : TakesNone before x me call = takes_beside before me call w x i.is.names i.is.plain xs (not_equal x.rank me i.apart) in
-    let qmate : HasMate before q = (IsRun-event next n before [] q first.run).mate in
+    let qmate : HasMate before q = (IsPromptRun-event next n before [] q first.run).mate in
     let qm : mate_name (before ++ x ∷ []) q.mate ≡ mate_name before q.mate = mate_stays before (x ∷ []) q qmate in
     let xm : mate_name (before ++ q ∷ []) x.mate ≡ mate_name before x.mate = mate_stays before (q ∷ []) x i.step.mate in
     let future : SameFuture n ((before ++ x ∷ []) ++ q ∷ []) ((before ++ q ∷ []) ++ x ∷ []) =
-    future_beside n before x q w i.is.names i.apart apart xs qs none qm xm in
-    let behind : IsMatched ((before ++ x ∷ []) ++ q ∷ []) = matched_chosen (before ++ x ∷ []) q i.step.matched e.starts (e.mate ∙ sym same) in
-    let matched : IsMatched ((before ++ q ∷ []) ++ x ∷ []) = matched_same n ((before ++ x ∷ []) ++ q ∷ []) ((before ++ q ∷ []) ++ x ∷ []) future behind in
+    future_beside n before x q w i.step.alone refl i.is.names i.apart apart xs qs none qm xm in
+    let behind : IsAllMatched ((before ++ x ∷ []) ++ q ∷ []) = matched_chosen (before ++ x ∷ []) q i.step.matched e.starts (e.mate ∙ sym same) refl in
+    let matched : IsAllMatched ((before ++ q ∷ []) ++ x ∷ []) = matched_same n ((before ++ x ∷ []) ++ q ∷ []) ((before ++ q ∷ []) ++ x ∷ []) future behind in
     let stays : is_start (x.call, x.reply) ≡ true → choice (before ++ q ∷ []) x.rank x.call ≡ choice before x.rank x.call =
-    λ s. elim (choice_behind before q x.rank x.call kept.matched (takes_apart n before me call w i.is.names i.is.none i.is.plain x.rank x.call (not_equal me x.rank apart))) [
+    λ s. elim (choice_behind before q x.rank x.call kept.matched refl (takes_apart n before me call w i.is.names i.is.none i.is.plain x.rank x.call (not_equal me x.rank apart))) [
       | inl as_was ↦ as_was
       | inr new ↦
           let rank : x.rank ≡ w = other_suits x.rank x.call me call w i.is.names new.suited in
@@ -264,7 +265,7 @@ beside_behind next n lawful before me call w x i same =
           let starting : is_starting x.call ≡ true = (and_parts (is_starting x.call) (is_done x.reply) s).0 in
           let free : choice before me call ≡ None = mate_none before me call (ap (mate_name before) (sym e.mate) ∙ new.alone) in
           let seen : choice (before ++ x ∷ []) me call ≡ Some (length before) =
-          meets_new before x me call kept.matched s alone (suits_forth me call w x.rank x.call i.is.names new.suited starting) none free in
+          meets_new before x me call kept.matched i.step.alone s alone (suits_forth me call w x.rank x.call i.is.names new.suited starting) none free in
           let no : None ≡ Some (length before) = sym free ∙ (sym same ∙ seen) in
           absurd (cc)
     ] in
@@ -314,7 +315,7 @@ crossed_behind : (next : Next) (n : ℕ) → Lawful next → (before : List Even
 crossed_behind next n lawful before me call w x i new =
     let q : Event = picked_event n before me call First in
     let at : Option ℕ = Some (length before) in
-    let kept = kept_run next n before lawful i.good.run in
+    let kept = kept_prompt next n before lawful i.good.run in
     let parts = free_parts n before me call i.is.none in
     let e = named_event n before me call w i.is.names i.is.none in
     let first = named_first_run next n lawful before me call w i.good i.is in
@@ -323,14 +324,14 @@ crossed_behind next n lawful before me call w x i new =
     let picked = first_picked n before x (pick_of n before x) calm (event_picked next n before x kept.matched kept.below i.step i.ordered) in
     let q_none : mate_name before q.mate ≡ None = ap (mate_name before) (e.mate ∙ new.was) in
     let future : SameFuture n ((before ++ x ∷ []) ++ with_mate q at ∷ []) ((before ++ q ∷ []) ++ with_mate x at ∷ []) =
-    future_crossed n before x q w i.is.names i.apart apart new.starts e.starts new.alone q_none in
-    let behind : IsMatched ((before ++ x ∷ []) ++ with_mate q at ∷ []) = matched_chosen (before ++ x ∷ []) (with_mate q at) i.step.matched e.starts (sym new.now) in
-    let matched : IsMatched ((before ++ q ∷ []) ++ with_mate x at ∷ []) =
+    future_crossed n before x q w i.step.alone refl i.is.names i.apart apart new.starts e.starts new.alone q_none in
+    let behind : IsAllMatched ((before ++ x ∷ []) ++ with_mate q at ∷ []) = matched_chosen (before ++ x ∷ []) (with_mate q at) i.step.matched e.starts (sym new.now) refl in
+    let matched : IsAllMatched ((before ++ q ∷ []) ++ with_mate x at ∷ []) =
     matched_same n ((before ++ x ∷ []) ++ with_mate q at ∷ []) ((before ++ q ∷ []) ++ with_mate x at ∷ []) future behind in
     let was : picked_mate before x.rank x.call x.reply First ≡ choice before x.rank x.call = rw new.starts refl in
     let free : choice before x.rank x.call ≡ None = mate_none before x.rank x.call (ap (mate_name before) (sym (own_mate n before x First picked ∙ was)) ∙ new.alone) in
     let seen : choice (before ++ q ∷ []) x.rank x.call ≡ at =
-    meets_new before q x.rank x.call kept.matched e.starts q_none (suits_back me call w x.rank x.call i.is.names new.suited)
+    meets_new before q x.rank x.call kept.matched refl e.starts q_none (suits_back me call w x.rank x.call i.is.names new.suited)
     (takes_apart n before me call w i.is.names i.is.none i.is.plain x.rank x.call (not_equal me x.rank apart)) free in
     let opened : picked_mate (before ++ q ∷ []) x.rank x.call x.reply First ≡ choice (before ++ q ∷ []) x.rank x.call = rw new.starts refl in
     record {
@@ -363,10 +364,10 @@ crossed_case next n lawful before me call w x i halts room new =
 pub named_swapped : (next : Next) (n : ℕ) → Lawful next → (before : List Event) (me : ℕ) (call : Call) (w : ℕ) (x : Event) → IsNamedWith next n before me call w x
     → halted (before ++ x ∷ []) ≡ None → is_full (before ++ x ∷ []) ≡ false → IsSwapped next n before me call x (picked_event n before me call First)
 named_swapped next n lawful before me call w x i halts room =
-    let kept = kept_run next n before lawful i.good.run in
+    let kept = kept_prompt next n before lawful i.good.run in
     let picked = event_picked next n before x kept.matched kept.below i.step i.ordered in
     let xs : HasStart before x = picked_start n before x (pick_of n before x) picked in
-    elim (choice_behind before x me call kept.matched (takes_beside before me call w x i.is.names i.is.plain xs (not_equal x.rank me i.apart))) [
+    elim (choice_behind before x me call kept.matched i.step.alone (takes_beside before me call w x i.is.names i.is.plain xs (not_equal x.rank me i.apart))) [
       | inl same ↦ beside_case next n lawful before me call w x i halts room same
       | inr new ↦ crossed_case next n lawful before me call w x i halts room new
     ]
@@ -375,10 +376,10 @@ named_swapped next n lawful before me call w x i halts room =
 pub named_behind : (next : Next) (n : ℕ) → Lawful next → (before : List Event) (me : ℕ) (call : Call) (w : ℕ) (x : Event) → IsNamedWith next n before me call w x
     → IsMadeBehind next n before x (picked_event n before me call First)
 named_behind next n lawful before me call w x i =
-    let kept = kept_run next n before lawful i.good.run in
+    let kept = kept_prompt next n before lawful i.good.run in
     let picked = event_picked next n before x kept.matched kept.below i.step i.ordered in
     let xs : HasStart before x = picked_start n before x (pick_of n before x) picked in
-    elim (choice_behind before x me call kept.matched (takes_beside before me call w x i.is.names i.is.plain xs (not_equal x.rank me i.apart))) [
+    elim (choice_behind before x me call kept.matched i.step.alone (takes_beside before me call w x i.is.names i.is.plain xs (not_equal x.rank me i.apart))) [
       | inl same ↦ (let b = beside_behind next n lawful before me call w x i same in record { mate = x.mate; good = b.good; probe = b.probe })
       | inr new ↦ (let c = crossed_behind next n lawful before me call w x i new in record { mate = Some (length before); good = c.good; probe = c.probe })
     ]
@@ -389,10 +390,10 @@ pub named_halting : (next : Next) (n : ℕ) → Lawful next → (before : List E
     → x.reply ≡ Stopped halt → IsGood next n ((before ++ picked_event n before me call First ∷ []) ++ x ∷ [])
 named_halting next n lawful before me call w x halt i stopped =
     let q : Event = picked_event n before me call First in
-    let kept = kept_run next n before lawful i.good.run in
+    let kept = kept_prompt next n before lawful i.good.run in
     let first = named_first_run next n lawful before me call w i.good i.is in
     let picked = event_picked next n before x kept.matched kept.below i.step i.ordered in
     let idle : is_start (x.call, x.reply) ≡ false = ap (λ r. is_start (x.call, r)) stopped ∙ and_right (is_starting x.call) false refl in
     let alone : x.mate ≡ None = idle_mate n before x (pick_of n before x) picked idle in
-    let matched : IsMatched ((before ++ q ∷ []) ++ x ∷ []) = matched_idle (before ++ q ∷ []) x idle alone (kept_run next n (before ++ q ∷ []) lawful first.run).matched in
+    let matched : IsAllMatched ((before ++ q ∷ []) ++ x ∷ []) = matched_idle (before ++ q ∷ []) x idle alone i.step.alone (kept_prompt next n (before ++ q ∷ []) lawful first.run).matched in
     same_run next n lawful before me call w x i matched (λ s. (let no : true ≡ false = sym s ∙ idle in absurd (cc)))

@@ -10,15 +10,16 @@ use Rattle.run_model.specs.declared.event.Event.{Event}
 use Rattle.run_model.specs.Allowed.{IsStuck, can_go, flags_of, is_prompt, true_places}
 use Rattle.run_model.specs.Chosen.{items_at}
 use Rattle.run_model.specs.Due.{due, halt_of_reply}
-use Rattle.run_model.specs.Pairs.{AreMatched, IsMatched, Name, PostAccepts, named, pair_of, pairs_of, partner_of, post_accepts}
-use Rattle.run_model.specs.Run.{IsEvent, IsRun}
+use Rattle.run_model.specs.Pairs.{AreAllMatched, IsAllMatched, Name, PostAccepts, named, pair_of, pairs_of, partner_of, post_accepts}
+use Rattle.run_model.specs.Run.{IsPromptEvent, IsPromptRun}
 use Rattle.run_model.specs.Serial.{call_after}
 use Rattle.run_model.specs.Views.{Next, View, is_start, moment_of, start_at, view_of}
 use Rattle.run_model.proofs.AllEntered.{AllListed, all_made, listed_more}
 use Rattle.run_model.proofs.Along.{Along-keeps, Along-snoc}
 use Rattle.run_model.proofs.Numbered.{AllMade}
 use Rattle.run_model.proofs.Positions.{new_name}
-use Rattle.run_model.proofs.RunLaws.{Lawful, kept_run}
+use Rattle.run_model.proofs.Prompt.{kept_all, kept_prompt}
+use Rattle.run_model.proofs.RunLaws.{Lawful}
 use Rattle.run_model.proofs.Views.{test_cases}
 use Rattle.picked_runs.specs.declared.turn.Pick.{Pick}
 use Rattle.picked_runs.specs.declared.turn.Pick.TheVariants.{First}
@@ -39,29 +40,29 @@ use Rattle.quiet_calls.proofs.Staying.{IsAnswered, all_ready, reply_answer, repl
 
 -- a run with a recording machine's numbers
 pub record IsGood (next : Next) (n : ℕ) (events : List Event) : Type 0 where
-  pub run : IsRun next n events
+  pub run : IsPromptRun next n events
   pub numbered : AreNumberedInOrder n events
 
 -- 1. what runs keep
 
 record Listed (next : Next) (n : ℕ) (events : List Event) : Type 0 where
-  run : IsRun next n events
+  run : IsPromptRun next n events
   listed : AllListed n events
 
-listed_on : (next : Next) (n : ℕ) → Lawful next → (before : List Event) (event : Event) → Listed next n before → IsEvent next n before event
+listed_on : (next : Next) (n : ℕ) → Lawful next → (before : List Event) (event : Event) → Listed next n before → IsPromptEvent next n before event
     → Listed next n (before ++ event ∷ [])
 listed_on next n lawful before event l step =
-    let run : IsRun next n (before ++ event ∷ []) = record { some = l.run.some; few = l.run.few; along = Along-snoc (IsEvent next n) [] before event l.run.along step } in
-    record { run = run; listed = listed_more next n before event (kept_run next n (before ++ event ∷ []) lawful run) l.listed }
+    let run : IsPromptRun next n (before ++ event ∷ []) = record { some = l.run.some; few = l.run.few; along = Along-snoc (IsPromptEvent next n) [] before event l.run.along step } in
+    record { run = run; listed = listed_more next n before event (kept_all next n (before ++ event ∷ []) (kept_prompt next n (before ++ event ∷ []) lawful run)) l.listed }
 
-pub made_in : (next : Next) (n : ℕ) → Lawful next → (events : List Event) → IsRun next n events → AllMade n events
+pub made_in : (next : Next) (n : ℕ) → Lawful next → (events : List Event) → IsPromptRun next n events → AllMade n events
 made_in next n lawful events run =
-    let l = Along-keeps (IsEvent next n) (Listed next n) (listed_on next n lawful) [] events
+    let l = Along-keeps (IsPromptEvent next n) (Listed next n) (listed_on next n lawful) [] events
     (record {
       run = record { some = run.some; few = run.few; along = tt };
       listed = λ m comm instance one members inputs at. absurd (cc);
     }) run.along in
-    all_made n events (kept_run next n events lawful run).instances.same l.listed
+    all_made n events (kept_prompt next n events lawful run).instances.same l.listed
 
 -- 2. pairs meet their conditions
 
@@ -76,31 +77,33 @@ takes_same N M names post send takes =
     }
 
 conditions_same : (N M : Name → Option Call) (P Q : List (Name × Name)) → ((name : Name) → N name ≡ M name)
-    → ((name : Name) → partner_of P name ≡ partner_of Q name) → AreMatched N P → AreMatched M Q
+    → ((name : Name) → partner_of P name ≡ partner_of Q name) → AreAllMatched N P → AreAllMatched M Q
 conditions_same N M P Q names pairs matched =
     let back : (name : Name) → M name ≡ N name = λ name. sym (names name) in
     record {
-      pairs_accept = λ a b h. elim (matched.pairs_accept a b (pairs a ∙ h)) [
-        | inl takes ↦ inl (takes_same N M names a b takes)
-        | inr takes ↦ inr (takes_same N M names b a takes)
-      ];
-      one_partner = λ a b h. sym (pairs b) ∙ matched.one_partner a b (pairs a ∙ h);
-      no_overtaking = λ post send h start less takes. ap is_some (sym (pairs (send.0, start)))
-          ∙ matched.no_overtaking post send (pairs post ∙ h) start less (takes_same M N back post (send.0, start) takes);
-      earliest_receive = λ post send h start less takes. ap is_some (sym (pairs (post.0, start)))
-          ∙ matched.earliest_receive post send (pairs post ∙ h) start less (takes_same M N back (post.0, start) send takes);
+      matched = record {
+        pairs_accept = λ a b h. elim (matched.matched.pairs_accept a b (pairs a ∙ h)) [
+          | inl takes ↦ inl (takes_same N M names a b takes)
+          | inr takes ↦ inr (takes_same N M names b a takes)
+        ];
+        one_partner = λ a b h. sym (pairs b) ∙ matched.matched.one_partner a b (pairs a ∙ h);
+        no_overtaking = λ post send h start less takes. ap is_some (sym (pairs (send.0, start)))
+            ∙ matched.matched.no_overtaking post send (pairs post ∙ h) start less (takes_same M N back post (send.0, start) takes);
+        earliest_receive = λ post send h start less takes. ap is_some (sym (pairs (post.0, start)))
+            ∙ matched.matched.earliest_receive post send (pairs post ∙ h) start less (takes_same M N back (post.0, start) send takes);
+      };
       nothing_waits = λ post send takes p q. matched.nothing_waits post send (takes_same M N back post send takes) (pairs post ∙ p) (pairs send ∙ q);
     }
 
-pub matched_same : (n : ℕ) (one other : List Event) → SameFuture n one other → IsMatched one → IsMatched other
+pub matched_same : (n : ℕ) (one other : List Event) → SameFuture n one other → IsAllMatched one → IsAllMatched other
 matched_same n one other same matched =
     conditions_same (named one) (named other) (pairs_of one) (pairs_of other) (λ name. ap (λ (v : View). start_at v name.1) (same.views name.0)) same.pairs matched
 
 -- an event that starts nothing and has no mate
-pub matched_idle : (before : List Event) (event : Event) → is_start (event.call, event.reply) ≡ false → event.mate ≡ None → IsMatched before → IsMatched (before ++ event ∷ [])
-matched_idle before event idle alone matched =
+pub matched_idle : (before : List Event) (event : Event) → is_start (event.call, event.reply) ≡ false → event.mate ≡ None → event.met ≡ [] → IsAllMatched before → IsAllMatched (before ++ event ∷ [])
+matched_idle before event idle alone none_met matched =
     let after : List Event = before ++ event ∷ [] in
-    let none : pair_of before event ≡ [] = rw alone refl in
+    let none : pair_of before event ≡ [] = rw (alone, none_met) refl in
     let same : pairs_of before ≡ pairs_of after =
     sym (pairs_of-push before event ∙ (ap (λ l. pairs_of before ++ l) none ∙ append-nil (pairs_of before))) in
     conditions_same (named before) (named after) (pairs_of before) (pairs_of after) (λ name. sym (named-other before event idle name))
@@ -127,7 +130,7 @@ never_takes before event still t other takes =
     let no : true ≡ false = sym takes.accepted ∙ never in
     cc
 
-pub matched_still : (before : List Event) (event : Event) → IsStill event → IsMatched before → IsMatched (before ++ event ∷ [])
+pub matched_still : (before : List Event) (event : Event) → IsStill event → IsAllMatched before → IsAllMatched (before ++ event ∷ [])
 matched_still before event still matched =
     let after : List Event = before ++ event ∷ [] in
     let pairs : (name : Name) → partner_of (pairs_of before) name ≡ partner_of (pairs_of after) name = λ name. ap (λ l. partner_of l name) (sym (pairs_stay before event still)) in
@@ -139,7 +142,7 @@ matched_still before event still matched =
             | inl taken ↦ never_taken before event still t other taken
             | inr takes_it ↦ never_takes before event still t other takes_it
           ]))
-      | inr t ↦ matched_idle before event t still.mate matched
+      | inr t ↦ matched_idle before event t still.mate still.none_met matched
     ]
 
 -- 3. one event more
@@ -147,7 +150,7 @@ matched_still before event still matched =
 pub step_on : (next : Next) (n : ℕ) → Lawful next → (before : List Event) (rank : ℕ) (call : Call) (pick : Pick) → IsGood next n before → rank < n
     → call_after next n before rank ≡ Some call → has_pick n before rank call pick ≡ true
     → (can_go n before rank (view_of before rank) call ≡ true) ⊎ IsStuck next n before
-    → IsMatched (before ++ picked_event n before rank call pick ∷ []) → IsGood next n (before ++ picked_event n before rank call pick ∷ [])
+    → IsAllMatched (before ++ picked_event n before rank call pick ∷ []) → IsGood next n (before ++ picked_event n before rank call pick ∷ [])
 step_on next n lawful before rank call pick good below asked offered goes matched =
     let picks : List Pick = picks_of n before in
     let after : List Event = before ++ picked_event n before rank call pick ∷ [] in

@@ -25,7 +25,7 @@ use Rattle.run_model.specs.Communicators.{members_for_rank}
 use Rattle.run_model.specs.Due.{due, halt_at, halt_of_reply, halted, is_full}
 use Rattle.run_model.specs.Inputs.{inputs_of, is_gathered}
 use Rattle.run_model.specs.Numbers.{Origin, communicators_of, made_at, number_among, origin_of}
-use Rattle.run_model.specs.Pairs.{IsMatched, Name, named, pair_of, pairs_of, partner_of, same_name}
+use Rattle.run_model.specs.Pairs.{IsAllMatched, Name, named, pair_of, pairs_of, partner_of, same_name}
 use Rattle.run_model.specs.Readiness.{is_ready}
 use Rattle.run_model.specs.Views.{View, is_start, moment_at, moment_of, start_at, view_of}
 use Rattle.run_model.proofs.Choosing.{choice_is_none}
@@ -83,7 +83,7 @@ still_mate before me call reply h = absurd (cc)
 
 pub quiet_event : (n : ℕ) (before : List Event) (me : ℕ) (call : Call) → is_steady call ≡ true → IsStill (picked_event n before me call First)
 quiet_event n before me call h =
-    record { call = quiet_still call h; mate = still_mate before me call (picked_reply n before me call First) h }
+    record { call = quiet_still call h; mate = still_mate before me call (picked_reply n before me call First) h; none_met = refl }
 
 pub offers : (n : ℕ) (before : List Event) (me : ℕ) (call : Call) (sender : ℕ) → has_pick n before me call (Sender sender) ≡ true
     → is_offered n before me (view_of before me) call (Sender sender) ≡ true
@@ -174,14 +174,14 @@ ready_on n before event me own k (Some (Trap fault)) h = absurd (cc)
 ready_on n before event me own k (Some End) h = absurd (cc)
 
 -- a paired start is there
-pub there_of : (before : List Event) (name other : Name) → IsMatched before → partner_of (pairs_of before) name ≡ Some other → (call : Call) × (named before other ≡ Some call)
+pub there_of : (before : List Event) (name other : Name) → IsAllMatched before → partner_of (pairs_of before) name ≡ Some other → (call : Call) × (named before other ≡ Some call)
 there_of before name other matched h =
-    elim (matched.pairs_accept name other h) [
+    elim (matched.matched.pairs_accept name other h) [
       | inl takes ↦ (takes.send_call, takes.send_is)
       | inr takes ↦ (takes.post_call, takes.post_is)
     ]
 
-message_on : (before : List Event) (event : Event) (name : Name) → IsMatched before → is_some (partner_of (pairs_of before) name) ≡ true
+message_on : (before : List Event) (event : Event) (name : Name) → IsAllMatched before → is_some (partner_of (pairs_of before) name) ≡ true
     → message_of (before ++ event ∷ []) (partner_of (pairs_of (before ++ event ∷ [])) name) ≡ message_of before (partner_of (pairs_of before) name)
 message_on before event name matched h =
     let p = some_of (partner_of (pairs_of before) name) h in
@@ -202,7 +202,7 @@ collected_on true false n before event me k enter inputs made at m u h =
     ∙ number_kept (communicators_of n before) (made_at n before event) origin (made me k enter inputs at m u h))
 collected_on false uncoloured n before event me k enter inputs made at m u h = refl
 
-got_on : (n : ℕ) (before : List Event) (event : Event) (me k : ℕ) (start : Option Call) → IsMatched before → AllMade n before → start_at (view_of before me) k ≡ start
+got_on : (n : ℕ) (before : List Event) (event : Event) (me k : ℕ) (start : Option Call) → IsAllMatched before → AllMade n before → start_at (view_of before me) k ≡ start
     → is_ready (moment_at n before me) k start ≡ true
     → got_of (moment_of n (before ++ event ∷ []) me (view_of before me)) k start ≡ got_of (moment_at n before me) k start
 got_on n before event me k None matched made at h = absurd (cc)
@@ -242,7 +242,7 @@ true_at P low (flag ∷ flags) each =
       | inr t ↦ rw t (true_at P (low + 1) flags later)
     ]
 
-items_on : (n : ℕ) (before : List Event) (event : Event) (me : ℕ) (starts indices : List ℕ) → IsMatched before → AllMade n before
+items_on : (n : ℕ) (before : List Event) (event : Event) (me : ℕ) (starts indices : List ℕ) → IsAllMatched before → AllMade n before
     → AllOf (λ i. is_ready (moment_at n before me) (slice_index starts i) (start_at (view_of before me) (slice_index starts i)) ≡ true) indices
     → items_at (moment_of n (before ++ event ∷ []) me (view_of before me)) starts indices ≡ items_at (moment_at n before me) starts indices
 items_on n before event me starts [] matched made all = refl
@@ -258,7 +258,7 @@ abbrev all_reply : ℕ → View → List ℕ → Bool → List Bool → List Ite
 all_reply me own starts test flags items =
     if list_all (λ x. x) flags then taken_reply me (first_long own starts items) items else held_reply test
 
-pub all_on : (n : ℕ) (before : List Event) (event : Event) (me : ℕ) (starts : List ℕ) (test : Bool) → IsMatched before → AllMade n before
+pub all_on : (n : ℕ) (before : List Event) (event : Event) (me : ℕ) (starts : List ℕ) (test : Bool) → IsAllMatched before → AllMade n before
     → list_all (λ x. x) (flags_of (moment_at n before me) starts) ≡ true
     → all_reply me (view_of before me) starts test (flags_of (moment_of n (before ++ event ∷ []) me (view_of before me)) starts)
     (items_at (moment_of n (before ++ event ∷ []) me (view_of before me)) starts (true_places 0 (flags_of (moment_of n (before ++ event ∷ []) me (view_of before me)) starts)))
@@ -330,7 +330,7 @@ halt_on n before after me own (Take starts mode) h none = none
 halt_on n before after me own End h none = refl
 halt_on n before after me own call h none = absurd (cc)
 
-answer_on : (n : ℕ) (before : List Event) (event : Event) (me : ℕ) (call : Call) → is_steady call ≡ true → IsMatched before → AllMade n before
+answer_on : (n : ℕ) (before : List Event) (event : Event) (me : ℕ) (call : Call) → is_steady call ≡ true → IsAllMatched before → AllMade n before
     → halt_of_reply (picked_answer n before me (view_of before me) call First) ≡ None → picked_answer n before me (view_of before me) call First ≢ NotYet
     → picked_answer n (before ++ event ∷ []) me (view_of before me) call First ≡ picked_answer n before me (view_of before me) call First
 answer_on n before event me (Post comm source tag room) h matched made free ready = refl
@@ -356,7 +356,7 @@ pub record IsAnsweredOn (n : ℕ) (before after : List Event) (me : ℕ) (call :
   pub same : picked_event n after me call First ≡ picked_event n before me call First
   pub answered : IsAnswered n after me call
 
-pub answered_on : (n : ℕ) (before : List Event) (event : Event) (me : ℕ) (call : Call) → IsAnswered n before me call → IsMatched before → AllMade n before
+pub answered_on : (n : ℕ) (before : List Event) (event : Event) (me : ℕ) (call : Call) → IsAnswered n before me call → IsAllMatched before → AllMade n before
     → (event.rank == me) ≡ false → halted (before ++ event ∷ []) ≡ None → is_full (before ++ event ∷ []) ≡ false
     → IsAnsweredOn n before (before ++ event ∷ []) me call
 answered_on n before event me call a matched made apart halts full =
@@ -374,7 +374,7 @@ answered_on n before event me call a matched made apart halts full =
     let answer : picked_answer n after me (view_of after me) call First ≡ picked_answer n before me own call First =
     ap (λ (v : View). picked_answer n after me v call First) seen ∙ answer_on n before event me call a.kind matched made (subst F was a.free) (subst G was a.ready) in
     let reply : picked_reply n after me call First ≡ picked_reply n before me call First = reply_answer n after me call First now ∙ (answer ∙ sym was) in
-    let E : Reply → Option ℕ → Event = λ r m. record { rank = me; call = call; reply = r; mate = m } in
+    let E : Reply → Option ℕ → Event = λ r m. record { rank = me; call = call; reply = r; mate = m; met = [] } in
     record {
       same = ap (λ r. E r (picked_mate after me call r First)) reply
           ∙ ap (E (picked_reply n before me call First)) (still_mate after me call (picked_reply n before me call First) a.kind

@@ -26,6 +26,7 @@ is_still call = false
 pub record IsStill (event : Event) : Type 0 where
   pub call : is_still event.call ≡ true
   pub mate : event.mate ≡ None
+  pub none_met : event.met ≡ []
 
 pub still_on : (comm : ℕ) (call : Call) → is_still call ≡ true → is_on comm call ≡ false
 still_on comm (Enter c kind root op count ints) h = absurd (cc)

@@ -13,12 +13,13 @@ use Rattle.run_model.specs.Allowed.{IsAllowedBy, IsStuck, can_go, is_prompt}
 use Rattle.run_model.specs.Chosen.{halt_or}
 use Rattle.run_model.specs.Due.{due, halt_at, halted, is_full, or_else}
 use Rattle.run_model.specs.Lists.{Along}
-use Rattle.run_model.specs.Pairs.{IsMatched}
+use Rattle.run_model.specs.Pairs.{IsAllMatched}
 use Rattle.run_model.specs.Program.{ends}
-use Rattle.run_model.specs.Run.{IsEvent}
+use Rattle.run_model.specs.Run.{IsPromptEvent}
 use Rattle.run_model.specs.Serial.{call_after}
 use Rattle.run_model.specs.Views.{Next, View, is_start, moment_at, replies_in, view_of}
-use Rattle.run_model.proofs.RunLaws.{Lawful, kept_run}
+use Rattle.run_model.proofs.Prompt.{kept_prompt}
+use Rattle.run_model.proofs.RunLaws.{Lawful}
 use Rattle.run_model.proofs.Views.{test_cases, view_of-append, view_of-mine, view_of-other}
 use Rattle.picked_runs.specs.declared.turn.Pick.TheVariants.{First}
 use Rattle.picked_runs.specs.Picks.{picked_answer, picked_event, picked_mate}
@@ -32,9 +33,9 @@ use Rattle.quiet_calls.proofs.Patience.{IsPatientView}
 -- 1. one rank is stopped
 
 abbrev pub stop_event : ℕ → Call → Halt → Event
-stop_event rank call halt = record { rank = rank; call = call; reply = Stopped halt; mate = None }
+stop_event rank call halt = record { rank = rank; call = call; reply = Stopped halt; mate = None; met = [] }
 
-pub stopped_again : (next : Next) (n : ℕ) (now : List Event) (event : Event) (halt : Halt) → halted now ≡ Some halt → IsEvent next n now event → event.reply ≡ Stopped halt
+pub stopped_again : (next : Next) (n : ℕ) (now : List Event) (event : Event) (halt : Halt) → halted now ≡ Some halt → IsPromptEvent next n now event → event.reply ≡ Stopped halt
 stopped_again next n now event halt h step =
     let F : Option Halt → Type 0 = λ o. IsAllowedBy
     (or_else o (if is_full now then Some Limit else halt_at n now event.rank (view_of now event.rank) event.call))
@@ -46,22 +47,22 @@ due_again n now rank call halt h = ap (λ o. or_else o (if is_full now then Some
 
 stop_is : (n : ℕ) (now : List Event) (rank : ℕ) (call : Call) (halt : Halt) → halted now ≡ Some halt → picked_event n now rank call First ≡ stop_event rank call halt
 stop_is n now rank call halt h =
-    let E : Reply → Event = λ r. record { rank = rank; call = call; reply = r; mate = picked_mate now rank call r First } in
+    let E : Reply → Event = λ r. record { rank = rank; call = call; reply = r; mate = picked_mate now rank call r First; met = [] } in
     let idle : is_start (call, Stopped halt) ≡ false = and_right (is_starting call) false refl in
     let mate : picked_mate now rank call (Stopped halt) First ≡ None = rw idle refl in
     ap (λ o. E (halt_or o (picked_answer n now rank (view_of now rank) call First))) (due_again n now rank call halt h)
-    ∙ ap (λ (m : Option ℕ). record { rank = rank; call = call; reply = Stopped halt; mate = m }) mate
+    ∙ ap (λ (m : Option ℕ). record { rank = rank; call = call; reply = Stopped halt; mate = m; met = [] }) mate
 
 pub stop_on : (next : Next) (n : ℕ) → Lawful next → (now : List Event) (rank : ℕ) (call : Call) (halt : Halt) → IsGood next n now → halted now ≡ Some halt → rank < n
     → call_after next n now rank ≡ Some call → IsGood next n (now ++ stop_event rank call halt ∷ [])
 stop_on next n lawful now rank call halt good h below asked =
     let same : picked_event n now rank call First ≡ stop_event rank call halt = stop_is n now rank call halt h in
     let G : Event → Type 0 = λ e. IsGood next n (now ++ e ∷ []) in
-    let M : Event → Type 0 = λ e. IsMatched (now ++ e ∷ []) in
+    let M : Event → Type 0 = λ e. IsAllMatched (now ++ e ∷ []) in
     let goes : can_go n now rank (view_of now rank) call ≡ true =
     or_left (is_some (due n now rank (view_of now rank) call)) (is_prompt n now rank (view_of now rank) call) (ap is_some (due_again n now rank call halt h)) in
-    let matched : IsMatched (now ++ stop_event rank call halt ∷ []) =
-    matched_idle now (stop_event rank call halt) (and_right (is_starting call) false refl) refl (kept_run next n now lawful good.run).matched in
+    let matched : IsAllMatched (now ++ stop_event rank call halt ∷ []) =
+    matched_idle now (stop_event rank call halt) (and_right (is_starting call) false refl) refl refl (kept_prompt next n now lawful good.run).matched in
     subst G same (step_on next n lawful now rank call First good below asked refl (inl goes) (subst M (sym same) matched))
 
 pub halted_on : (now : List Event) (event : Event) (halt : Halt) → halted now ≡ Some halt → halted (now ++ event ∷ []) ≡ Some halt
@@ -78,7 +79,7 @@ stopped_ends next n lawful now rank call halt good below =
     let after : List Event = now ++ stop_event rank call halt ∷ [] in
     let seen : view_of after rank ≡ view_of now rank ++ (call, Stopped halt) ∷ [] = view_of-mine now (stop_event rank call halt) rank refl in
     let ended : list_any ends (view_of after rank) ≡ true = ap (list_any ends) seen ∙ ends_last (view_of now rank) call halt in
-    (lawful.ends n rank (view_of after rank) (good.run.some, good.run.few, below) ((kept_run next n after lawful good.run).came rank below)).1 ended
+    (lawful.ends n rank (view_of after rank) (good.run.some, good.run.few, below) ((kept_prompt next n after lawful good.run).came rank below)).1 ended
 
 -- 2. all ranks are stopped
 
@@ -191,7 +192,7 @@ own_others me mid now event call halt own others rank apart =
 
 -- another rank's event, and what comes behind it
 finish_other : (next : Next) (n : ℕ) → Lawful next → (me : ℕ) (halt : Halt) (asked : Option Call) (mid now : List Event) (event : Event) (events : List Event)
-    → IsEvent next n mid event → (event.rank == me) ≡ false → event.reply ≡ Stopped halt → IsGood next n now → halted now ≡ Some halt
+    → IsPromptEvent next n mid event → (event.rank == me) ≡ false → event.reply ≡ Stopped halt → IsGood next n now → halted now ≡ Some halt
     → ((rank : ℕ) → (rank == me) ≡ false → view_of now rank ≡ view_of mid rank) → call_after next n now me ≡ asked
     → (IsGood next n (now ++ stop_event event.rank event.call halt ∷ []) → halted (now ++ stop_event event.rank event.call halt ∷ []) ≡ Some halt
     → ((rank : ℕ) → (rank == me) ≡ false → view_of (now ++ stop_event event.rank event.call halt ∷ []) rank ≡ view_of (mid ++ event ∷ []) rank)
@@ -210,7 +211,7 @@ finish_other next n lawful me halt asked mid now event events step apart stopped
       | inr later ↦ later
     ])) f.ended
 
-pub finishes : (next : Next) (n : ℕ) → Lawful next → (me : ℕ) (halt : Halt) (asked : Option Call) (mid now events : List Event) → Along (IsEvent next n) mid events
+pub finishes : (next : Next) (n : ℕ) → Lawful next → (me : ℕ) (halt : Halt) (asked : Option Call) (mid now events : List Event) → Along (IsPromptEvent next n) mid events
     → halted mid ≡ Some halt → IsGood next n now → halted now ≡ Some halt → ((rank : ℕ) → (rank == me) ≡ false → view_of now rank ≡ view_of mid rank)
     → call_after next n now me ≡ asked → Finishes next n me asked mid now events
 finishes next n lawful me halt asked mid now [] steps h good h' others asks = nothing next n me asked mid now good others asks

@@ -7,7 +7,7 @@ use Rattle.run_model.specs.declared.event.Event.{Event}
 use Rattle.run_model.specs.Communicators.{Entered, count_on, enter_at, members_for_rank}
 use Rattle.run_model.specs.Inputs.{gather}
 use Rattle.run_model.specs.Numbers.{Origin, communicators_of, made_at, origins_from}
-use Rattle.run_model.specs.Pairs.{Name, name_at, pair_of, pair_with, pairs_of, partner_of}
+use Rattle.run_model.specs.Pairs.{Name, mated, name_at, pair_of, pair_with, pairs_of, partner_of}
 use Rattle.run_model.specs.Run.{HasMate}
 use Rattle.run_model.specs.Views.{View, is_start, starts_of, view_of}
 use Rattle.run_model.proofs.Numbered.{communicators_of-push}
@@ -52,12 +52,27 @@ views_swapped before x q apart rank =
 
 -- 2. pairs
 
-pub pair_is : (before : List Event) (event : Event) → pair_of before event ≡ pair_with (mate_name before event.mate) (new_name before event)
-pair_is before event =
+mated_is : (before : List Event) (event : Event) → mated before event ≡ pair_with (mate_name before event.mate) (new_name before event)
+mated_is before event =
     elim (option_cases event.mate) [
       | inl some ↦ rw some.1 refl
       | inr none ↦ rw none refl
     ]
+
+-- with the mate alone, where nothing else meets after the event
+pub pair_is : (before : List Event) (event : Event) → event.met ≡ [] → pair_of before event ≡ pair_with (mate_name before event.mate) (new_name before event)
+pair_is before event none_met =
+    ap (λ l. mated before event ++ l) none_met ∙ (append-nil (mated before event) ∙ mated_is before event)
+
+-- the pair with the mate, behind an event of another rank
+pub pair_beside : (before : List Event) (other event : Event) → mate_name (before ++ other ∷ []) event.mate ≡ mate_name before event.mate → (other.rank == event.rank) ≡ false
+    → pair_of (before ++ other ∷ []) event ≡ pair_of before event
+pair_beside before other event mate apart =
+    let count : View → Name = λ v. (event.rank, length (starts_of v)) in
+    ap (λ l. l ++ event.met)
+    (mated_is (before ++ other ∷ []) event
+    ∙ (ap (λ m. pair_with m (new_name (before ++ other ∷ []) event)) mate
+    ∙ (ap (λ (v : View). pair_with (mate_name before event.mate) (count v)) (view_of-other before other event.rank apart) ∙ sym (mated_is before event))))
 
 has_name : (before : List Event) (event : Event) (at : ℕ) → event.mate ≡ Some at → HasMate before event → (name : Name) × (name_at before at ≡ Some name)
 has_name before event at h has =
@@ -75,10 +90,7 @@ mate_stays before more event has =
 
 pair_stays : (before : List Event) (x q : Event) → HasMate before x → (q.rank == x.rank) ≡ false → pair_of (before ++ q ∷ []) x ≡ pair_of before x
 pair_stays before x q has apart =
-    let count : View → Name = λ v. (x.rank, length (starts_of v)) in
-    pair_is (before ++ q ∷ []) x
-    ∙ (ap (λ m. pair_with m (new_name (before ++ q ∷ []) x)) (mate_stays before (q ∷ []) x has)
-    ∙ (ap (λ (v : View). pair_with (mate_name before x.mate) (count v)) (view_of-other before q x.rank apart) ∙ sym (pair_is before x)))
+    pair_beside before q x (mate_stays before (q ∷ []) x has) apart
 
 pairs_swapped : (before : List Event) (x q : Event) → IsStill q → HasMate before x → (q.rank == x.rank) ≡ false
     → pairs_of ((before ++ x ∷ []) ++ q ∷ []) ≡ pairs_of ((before ++ q ∷ []) ++ x ∷ [])

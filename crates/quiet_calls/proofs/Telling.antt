@@ -14,7 +14,7 @@ use Rattle.run_model.specs.declared.ending.Ending.TheVariants.{Halted}
 use Rattle.run_model.specs.declared.event.Event.{Event}
 use Rattle.run_model.specs.Allowed.{IsAllowedBy, IsAnswer, IsHeld, IsPeekAnswer, IsStuck, IsTakeAnswer, first_long, flags_of, has_open, mode_holds, probe_of, taken_reply}
 use Rattle.run_model.specs.Due.{bad_halt, bad_request, due, halt_at, halted, is_full, is_mismatched}
-use Rattle.run_model.specs.Run.{IsEvent}
+use Rattle.run_model.specs.Run.{IsPromptEvent}
 use Rattle.run_model.specs.Shape.{is_test}
 use Rattle.run_model.specs.Views.{Next, View, moment_of, replies_in, view_of}
 use Rattle.run_model.proofs.Views.{option_cases}
@@ -76,7 +76,7 @@ answer_told stuck n before me own (Peek comm source tag wait) halt is = peek_tol
 answer_told stuck n before me own call halt is = absurd (cc)
 
 -- where no halt was before, and no bound is met
-pub halt_told : (next : Next) (n : ℕ) (before : List Event) (x : Event) (halt : Halt) → IsEvent next n before x → x.reply ≡ Stopped halt → halted before ≡ None
+pub halt_told : (next : Next) (n : ℕ) (before : List Event) (x : Event) (halt : Halt) → IsPromptEvent next n before x → x.reply ≡ Stopped halt → halted before ≡ None
     → is_full before ≡ false → TellsOnly n x.rank halt ⊎ IsStuck next n before
 halt_told next n before x halt step stopped none room =
     let own : View = view_of before x.rank in

@@ -254,7 +254,7 @@ unseen n before event me call pick b =
     ap (λ (v : View). due n after me v call) seen ∙ due_stays n before event me b own call in
     let reply : picked_reply n after me call pick ≡ picked_reply n before me call pick =
     ap (λ o. halt_or o (picked_answer n after me (view_of after me) call pick)) halt ∙ ap (halt_or (due n before me own call)) answer in
-    let E : Reply → Option ℕ → Event = λ r m. record { rank = me; call = call; reply = r; mate = m } in
+    let E : Reply → Option ℕ → Event = λ r m. record { rank = me; call = call; reply = r; mate = m; met = [] } in
     let mate : (r : Reply) → picked_mate after me call r pick ≡ picked_mate before me call r pick =
     λ r. ap (λ (o : Option ℕ). if is_start (call, r) then o else None) (b.choices (looking call pick)) in
     record {

@@ -7,7 +7,7 @@ use Rattle.mpi_call.specs.Lists.{IsIn}
 use Rattle.run_model.specs.declared.event.Event.{Event}
 use Rattle.run_model.specs.Due.{halted, total_size}
 use Rattle.run_model.specs.Lists.{Along}
-use Rattle.run_model.specs.Run.{IsRun}
+use Rattle.run_model.specs.Run.{IsPromptRun}
 use Rattle.run_model.specs.Serial.{call_after}
 use Rattle.run_model.specs.Views.{Next, moment_at}
 use Rattle.picked_runs.specs.declared.turn.Pick.{Pick}
@@ -25,9 +25,9 @@ pub record IsFarBelow (events : List Event) : Type 0 where
   pub count : length events + length events < MOST_EVENTS
   pub size : total_size events + total_size events < MOST_SIZE
 
--- a run with a recording machine's numbers that keeps its probes, has no halt, and is far below its bound
+-- a run in which nothing is late, with a recording machine's numbers, that keeps its probes, has no halt, and is far below its bound
 pub record IsOnItsWay (next : Next) (n : ℕ) (events : List Event) : Type 0 where
-  pub run : IsRun next n events
+  pub run : IsPromptRun next n events
   pub numbered : AreNumberedInOrder n events
   pub probes : KeepsProbes events
   pub free : halted events ≡ None
@@ -72,7 +72,7 @@ pub record AreReckonedWith (next : Next) (n : ℕ) (races : Races) (opened visit
   pub agreed : races.partial ≡ false → (before : List Event) (rank : ℕ) (call : Call) (pick : Pick) (second : ℕ) → IsIn before opened
       → IsHalting next (moment_at n before rank) call pick (Mismatched second) → ⊥
 
--- what each whole run from the first of such histories on comes to is what one that was opened comes to
+-- what each whole run, nothing in it late, from the first of such histories on comes to is what one that was opened comes to
 abbrev pub QuietCallsMissNothing : Next → Output → ℕ → Type 0
 QuietCallsMissNothing next output n =
     (races : Races) (root more : List Event) (opened visited : List (List Event)) → AreClosedQuietly next n races root IsProbeKept (met_histories opened visited)

@@ -10,7 +10,7 @@ use Rattle.run_model.specs.declared.event.Event.{Event}
 use Rattle.run_model.specs.Allowed.{takes_all}
 use Rattle.run_model.specs.Due.{halt_of_reply, halted, is_full, is_mismatched}
 use Rattle.run_model.specs.Lists.{Along}
-use Rattle.run_model.specs.Run.{IsRun}
+use Rattle.run_model.specs.Run.{IsPromptRun}
 use Rattle.run_model.specs.Serial.{call_after}
 use Rattle.run_model.specs.Views.{Next, View, view_of}
 use Rattle.picked_runs.specs.declared.turn.Pick.TheVariants.{First}
@@ -102,8 +102,8 @@ pub record GoesOnBehind (next : Next) (output : Output) (n : ℕ) (root more : L
   pub longer : length rest ≤ length more
   pub shorter : IsMadeFree root more first.rank → length rest + 1 ≡ length more
 
--- after a history with a quiet call each whole run from there on that is calm, and agrees with the call, comes to what one comes to that makes this
--- call first, if the run is below its bound with one call more, as far as its first halt
+-- after a history with a quiet call each whole run from there on in which nothing is late, that is calm, and agrees with the call, comes to what one
+-- comes to that makes this call first, if the run is below its bound with one call more, as far as its first halt
 abbrev pub QuietCallsGoFirst : Next → Output → ℕ → Type 0
 QuietCallsGoFirst next output n =
     (races : Races) (root more : List Event) (rank : ℕ) (call : Call) → IsQuiet next n races root rank call
@@ -125,19 +125,19 @@ pub record IsLeftOver (next : Next) (n : ℕ) (root front rest : List Event) (fi
   pub future : SameFuture n ((root ++ front) ++ last ∷ []) (root ++ first ∷ rest)
   pub count : length rest ≡ length front
 
--- what goes on from a history without a halt goes on so behind one event more: it keeps its probes if the first does, and leaves the same, but for the
+-- what goes on from a history without a halt, nothing in it late, goes on so behind one event more: it keeps its probes if the first does, and leaves the same, but for the
 -- event itself where it was not made
 pub record GoesAhead (next : Next) (n : ℕ) (root front : List Event) (first : Event) : Type 0 where
   pub rest : List Event
-  pub run : IsRun next n (root ++ first ∷ rest)
+  pub run : IsPromptRun next n (root ++ first ∷ rest)
   pub numbered : AreNumberedInOrder n (root ++ first ∷ rest)
   pub probes : Along IsProbeKept root front → Along IsProbeKept root (first ∷ rest)
   pub left : IsMadeThere n root front rest first ⊎ IsLeftOver next n root front rest first
 
--- the same of runs that have not ended, as far as they go without a halt
+-- the same of runs in which nothing is late that have not ended, as far as they go without a halt
 abbrev pub QuietCallsGoAhead : Next → ℕ → Type 0
 QuietCallsGoAhead next n =
     (races : Races) (root front : List Event) (rank : ℕ) (call : Call) → IsQuiet next n races root rank call
-    → IsRun next n (root ++ front) → AreNumberedInOrder n (root ++ front) → halted (root ++ front) ≡ None → is_calm races (root ++ front) ≡ true
+    → IsPromptRun next n (root ++ front) → AreNumberedInOrder n (root ++ front) → halted (root ++ front) ≡ None → is_calm races (root ++ front) ≡ true
     → IsAgreed n (root ++ front) (view_of root rank) call → is_full (root ++ picked_event n root rank call First ∷ front) ≡ false
     → GoesAhead next n root front (picked_event n root rank call First)

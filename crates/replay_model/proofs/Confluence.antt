@@ -51,6 +51,7 @@ next_in next log stop before other event [] all done begins step e =
       call = rw (← same) step.call;
       reply = rw (← same) (answer_of-replied log stop (view_of before) (view_of other) (view_of before event.rank) event.rank event.call event.reply begins step.reply);
       mate = step.mate;
+      alone = step.alone;
     }))
 next_in next log stop before other event ((call, reply) ∷ rest) all done begins step e =
     let found = step_in next log stop other event.rank (view_of before event.rank) call reply rest all (sym e) in

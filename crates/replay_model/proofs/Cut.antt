@@ -190,8 +190,8 @@ next_free next log stop run events before after event lawful is all e has member
     elim (answer_of-same log stop (view_of events) (within group (view_of run)) own event.rank event.call up) [
       | goes e ↦ (
           let answer : replay_answer log stop (view_of events) event.rank own event.call ≡ Replied event.reply = sym e ∙ whole in
-          let made : Event = record { rank = event.rank; call = event.call; reply = event.reply; mate = None } in
-          all.exhausted made (record { member = member; call = rw (← same) step.call; reply = rw (← same) answer; mate = refl }))
+          let made : Event = record { rank = event.rank; call = event.call; reply = event.reply; mate = None; met = [] } in
+          all.exhausted made (record { member = member; call = rw (← same) step.call; reply = rw (← same) answer; mate = refl; alone = refl }))
       | waits missing w ↦ (
           let at = entry_in_log log run event.rank own event.call event.reply (view_of after event.rank) is.same_log member place in
           let fill = waits_for log stop (view_of events) own event.rank event.call entry missing at w in

@@ -11,14 +11,13 @@ use Rattle.mpi_call.specs.declared.reply.Reply.TheVariants.{Done, NotYet, Peeked
 use Rattle.mpi_call.specs.Calls.{comm_of, listed_by, makes}
 use Rattle.mpi_call.specs.Collectives.{is_member, is_uncoloured, needs}
 use Rattle.run_model.specs.declared.event.Event.{Event}
-use Rattle.run_model.specs.Allowed.{IsAllowed, IsStuck}
+use Rattle.run_model.specs.Allowed.{IsAllowed}
 use Rattle.run_model.specs.Communicators.{enter_at, instance_of, members_for_rank}
-use Rattle.run_model.specs.Due.{due}
 use Rattle.run_model.specs.Inputs.{gather, inputs_of}
 use Rattle.run_model.specs.Readiness.{AreGots, IsFrom, IsGot, IsMessage}
 use Rattle.run_model.specs.Views.{Next, View, moment_of, start_at, view_of}
 use Rattle.run_model.proofs.Prefixes.{Begins}
-use Rattle.run_model.proofs.TrueReplies.{IsTrueReply, allowed_true}
+use Rattle.run_model.proofs.TrueReplies.{IsTrueReply, reply_true}
 use Rattle.run_model.proofs.Views.{test_cases}
 use Rattle.srr_entry.specs.Entries.{all_within, entry_of, is_inner, mark_of_got, marks_of_items}
 use Rattle.replay_model.specs.Filling.{as_took, fill_mark, fill_marks, filled_reply}
@@ -143,4 +142,4 @@ pub filled_allowed : (next : Next) (n : ℕ) (group : List ℕ) (before : List E
     → IsAllowed next n before me call reply
     → filled_reply n (within group (view_of before)) me (view_of before me) call (entry_of n group me (view_of before me) call reply) ≡ Ok reply
 filled_allowed next n group before me call reply is =
-    filled_true n group before (view_of before me) me call reply (allowed_true (due n before me (view_of before me) call) (IsStuck next n before) n before (view_of before me) me call reply is)
+    filled_true n group before (view_of before me) me call reply (reply_true next n before me call reply is)

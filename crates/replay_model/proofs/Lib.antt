@@ -11,3 +11,8 @@ pub mod MissingLemmas
 pub mod NumberLemmas
 pub mod Cut
 pub mod Starved
+pub mod Free
+mod TestedRuns
+mod TablePrograms
+mod LateRuns
+mod LateReplays

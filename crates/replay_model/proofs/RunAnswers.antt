@@ -5,15 +5,13 @@ use Rattle.mpi_call.specs.declared.reply.Reply.{Reply}
 use Rattle.mpi_call.specs.Collectives.{is_member}
 use Rattle.run_model.specs.declared.event.Event.{Event}
 use Rattle.run_model.specs.declared.lists.Variable.{Variable}
-use Rattle.run_model.specs.Allowed.{IsStuck}
-use Rattle.run_model.specs.Due.{due}
 use Rattle.run_model.specs.Lists.{IsPrefixOf}
 use Rattle.run_model.specs.Run.{IsRun}
 use Rattle.run_model.specs.Views.{Next, View, replies_in, view_of}
 use Rattle.run_model.proofs.Places.{place, view_at}
 use Rattle.run_model.proofs.Prefixes.{Begins, Begins-more}
 use Rattle.run_model.proofs.RunLaws.{IsRun-event, IsRun-front, Lawful, event_shaped, kept_run}
-use Rattle.run_model.proofs.TrueReplies.{allowed_true}
+use Rattle.run_model.proofs.TrueReplies.{reply_true}
 use Rattle.run_model.proofs.Views.{test_cases}
 use Rattle.srr_entry.specs.declared.entry.Entry.{Entry}
 use Rattle.srr_entry.specs.declared.log.Log.{Log}
@@ -55,7 +53,7 @@ answer_here next log stop run before after event lawful is e member free =
     let step = IsRun-event next n before after event split in
     let kept = kept_run next n before lawful (IsRun-front next n before (event ∷ after) split) in
     let shaped = event_shaped next n before event lawful split.some split.few kept step in
-    let true_reply = allowed_true (due n before event.rank own event.call) (IsStuck next n before) n before own event.rank event.call event.reply step.reply in
+    let true_reply = reply_true next n before event.rank event.call event.reply step.reply in
     let fit = fits_shaped n group event.rank own event.call event.reply member shaped in
     let fill = filled_allowed next n group before event.rank event.call event.reply step.reply in
     let broke = unbroken n group before event.rank event.call event.reply kept.matched kept.instances.same true_reply shaped in

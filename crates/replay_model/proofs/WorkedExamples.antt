@@ -29,7 +29,7 @@ use Rattle.replay_model.specs.Replays.{replay_answer}
 use Rattle.replay_model.specs.Rests.{IsCutOff, follows, call_rested_on, rests, rests_on, stops}
 
 abbrev pub event : ℕ → Call → Reply → Option ℕ → Event
-event rank call reply mate = record { rank = rank; call = call; reply = reply; mate = mate }
+event rank call reply mate = record { rank = rank; call = call; reply = reply; mate = mate; met = [] }
 
 abbrev pub one : ℕ → Got → Reply
 one index got = Took ((record { index = index; got = got }) ∷ [])

@@ -15,7 +15,8 @@ use Rattle.replay_model.specs.declared.replayed.Stand.{Stand}
 use Rattle.replay_model.specs.declared.replayed.Stand.TheVariants.{Ended, LogEnded, AtBreak, Diverged, Starved}
 use Rattle.replay_model.specs.declared.step.Divergence.{Divergence}
 use Rattle.replay_model.specs.declared.step.Missing.{Missing}
-use Rattle.replay_model.specs.Replays.{IsWholeReplay, Replays, Breakpoint}
+use Rattle.replay_model.specs.FreeSteps.{AreFreeSteps, IsFreeStep}
+use Rattle.replay_model.specs.Replays.{Replays, Breakpoint}
 use Rattle.replay_model.specs.Rests.{IsInCut}
 use Rattle.replay_model.specs.Stands.{stand_of}
 use Rattle.srr_entry.specs.Outputs.{Output, printed_of}
@@ -36,11 +37,15 @@ pub record HasAllOf (output : Output) (log : Log) (events run : List Event) : Ty
   pub views : (rank : ℕ) → is_member log.group rank ≡ true → view_of events rank ≡ view_of run rank
   pub outputs : (rank : ℕ) → is_member log.group rank ≡ true → printed_of output log.ranks events rank ≡ printed_of output log.ranks run rank
 
--- whatever the order of the group's ranks: at every moment of a replay each rank has a prefix of what it has in the run, and no
--- other rank has taken a step; a replay that can go no further has all of it
+-- whatever the order of the group's ranks: when each step is a rank's next call and what the log's next entry stands for, each rank has
+-- at every moment a prefix of what it has in the run, and no other rank has taken a step; where there is no further step, all of it
 pub record ShowsInEveryOrder (next : Next) (output : Output) (log : Log) (run : List Event) : Type 0 where
-  pub moments : (events : List Event) → Replays next log None events → BeginsRun output log events run
-  pub ends : (events : List Event) → IsWholeReplay next log None events → HasAllOf output log events run
+  pub moments : (events : List Event) → AreFreeSteps next log events → BeginsRun output log events run
+  pub ends : (events : List Event) → AreFreeSteps next log events → ((event : Event) → IsFreeStep next log events event → ⊥) → HasAllOf output log events run
+
+-- a replay without a breakpoint and such steps are the same
+abbrev pub ReplaysInEveryOrder : Next → Log → Type 0
+ReplaysInEveryOrder next log = (events : List Event) → Replays next log None events ↔ AreFreeSteps next log events
 
 -- a rank that stands otherwise than at a call that does not fit its entry
 abbrev pub HasNotDiverged : Stand → Type 0

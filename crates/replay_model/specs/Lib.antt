@@ -4,4 +4,5 @@ pub mod Breaks
 pub mod Replays
 pub mod Stands
 pub mod Rests
+pub mod FreeSteps
 pub mod Laws

@@ -60,7 +60,7 @@ copies_nothing step = true
 
 -- the event that a reply makes
 abbrev pub replied_event : ℕ → Call → Reply → Event
-replied_event rank call reply = record { rank = rank; call = call; reply = reply; mate = None }
+replied_event rank call reply = record { rank = rank; call = call; reply = reply; mate = None; met = [] }
 
 -- the events after an answer
 abbrev pub events_after : List Event → ℕ → Call → Step → List Event
@@ -73,6 +73,7 @@ pub record IsReplayStep (next : Next) (log : Log) (stop : Breakpoint) (before : 
   pub call : next log.ranks event.rank (replies_in (view_of before event.rank)) ≡ Some event.call
   pub reply : replay_answer log stop (view_of before) event.rank (view_of before event.rank) event.call ≡ Replied event.reply
   pub mate : event.mate ≡ None
+  pub alone : event.met ≡ []
 
 -- events each of which is a step of the replay after those before it
 abbrev pub Replays : Next → Log → Breakpoint → List Event → Type 0

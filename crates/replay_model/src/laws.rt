@@ -3,7 +3,7 @@
 ghost use Rattle.std.specs.Prelude.{◌≡◌, ℕ, List, Option, None};
 ghost use Rattle.run_model.specs.declared.event.Event.{Event};
 ghost use Rattle.run_model.specs.Views.{view_of};
-ghost use Rattle.replay_model.specs.Laws.{BeginsRun, EachStand, HasAllOf, HasNotDiverged, HasTheCut, IsStandAtEnd, IsRunWith, ShowsInEveryOrder, StarvesBehindABreak};
+ghost use Rattle.replay_model.specs.Laws.{BeginsRun, EachStand, HasAllOf, HasNotDiverged, HasTheCut, IsStandAtEnd, IsRunWith, ReplaysInEveryOrder, ShowsInEveryOrder, StarvesBehindABreak};
 ghost use Rattle.replay_model.specs.Replays.{IsWholeReplay, Replays};
 ghost use Rattle.replay_model.specs.Stands.{stand_of};
 ghost use Rattle.srr_entry.specs.Outputs.{printed_of};
@@ -38,10 +38,12 @@ pub fn has_all_of_every_run<P: Program>(
     ensures stands { stop.now ≡ None → (run : List Event) → IsRunWith (P.next program.now) log.now run → EachStand IsStandAtEnd (P.next program.now) (P.variables program.now) log.now stop.now events.now.events }
 {}
 
-/// Replay in any order: every replay of this log without a breakpoint, whatever the order of its ranks, shows each run with
-/// this log, at every moment a prefix and in the end all of it.
+/// Replay in any order: steps of the group's ranks, each the next call of its program and what the log's next entry stands for,
+/// show each run with this log, whatever their order, at every moment a prefix and in the end all of it. Beside such a run they are
+/// the replays of the log without a breakpoint.
 pub fn every_order_shows_every_run<P: Program>(program: &P, log: &Log)
     ensures shows { (run : List Event) → IsRunWith (P.next program.now) log.now run → ShowsInEveryOrder (P.next program.now) (P.output program.now) log.now run }
+    ensures replays { (run : List Event) → IsRunWith (P.next program.now) log.now run → ReplaysInEveryOrder (P.next program.now) log.now }
 {}
 
 /// The exact cut: a replay that can go no further has exactly the places of each run with this log that its breakpoint does

@@ -75,7 +75,7 @@ never_there = refl
 -- ---- places
 
 abbrev event : ℕ → Call → Reply → Event
-event rank call reply = record { rank = rank; call = call; reply = reply; mate = None }
+event rank call reply = record { rank = rank; call = call; reply = reply; mate = None; met = [] }
 
 abbrev send : Call
 send = Send 0 0 2 (pos 1 ∷ []) true

@@ -280,9 +280,9 @@ knows_took n events state me starts places mode items k within out =
     let none : name_at events (length events) ≡ None = sym (k.names (length events)) ∙ name_past state.names (length events) k.below in
     record {
       ranks = length-row me (all_marked true numbers (row_of rows me)) rows ∙ k.ranks;
-      matcher = knows_others events state.unpaired event k.matcher (record { other = refl; alone = refl });
+      matcher = knows_others events state.unpaired event k.matcher (record { other = refl; alone = refl; none_met = refl });
       calls = λ other. kept-marked (λ (o : Option MadeStart). option_map (λ (s : MadeStart). s.call) o) rows me true numbers other within (same_call true) ∙ (k.calls other ∙ sym (named-other events event refl other));
-      mates = λ other. kept-marked partner_name rows me true numbers other within (same_mate true) ∙ (k.mates other ∙ sym (ap (λ (P : List (Name × Name)). partner_of P other) (pairs-alone events event refl)));
+      mates = λ other. kept-marked partner_name rows me true numbers other within (same_mate true) ∙ (k.mates other ∙ sym (ap (λ (P : List (Name × Name)). partner_of P other) (pairs-alone events event refl refl)));
       taken = λ r number. taken_after n events state me starts places mode items r number k within out;
       names = λ at. k.names at ∙ sym (name_at-push events event at ∙ elim (cases_eq at (length events)) [
         | inl e ↦ rw (eq-eqb at (length events) e) (sym (ap (name_at events) e ∙ none))

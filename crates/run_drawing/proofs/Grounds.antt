@@ -1,5 +1,7 @@
 -- What the replies of a run rest on is there.
 use Rattle.std.proofs.Common.{◌≡◌, ◌+◌, ◌∷◌, [], ℕ, ℤ, zero, suc, Bool, List, Option, Some, None, Result, Ok, Err, true, false, not, inl, inr, is_some, map, refl, ap, sym, ◌∙◌, arith, slice_get, slice_index, subst}
+use Rattle.std.proofs.lemmas.Bool.{and_parts}
+use Rattle.std.specs.List.{list_all}
 use Rattle.mpi_call.specs.declared.call.Call.{Call}
 use Rattle.mpi_call.specs.declared.call.Call.TheVariants.{Abort, End, Enter, Peek, Post, Send, Take, Trap}
 use Rattle.mpi_call.specs.declared.call.Halt.{Halt}
@@ -12,13 +14,13 @@ use Rattle.mpi_call.specs.declared.reply.Got.{Got}
 use Rattle.mpi_call.specs.declared.reply.Got.TheVariants.{Message as GotMessage, Nothing, Sent}
 use Rattle.mpi_call.specs.declared.reply.Item.{Item}
 use Rattle.mpi_call.specs.declared.reply.Reply.{Reply}
-use Rattle.mpi_call.specs.declared.reply.Reply.TheVariants.{Done, Peeked, Stopped, Took}
+use Rattle.mpi_call.specs.declared.reply.Reply.TheVariants.{Done, NotYet, Peeked, Stopped, Took}
 use Rattle.mpi_call.specs.Calls.{ints_of, listed_by, makes}
 use Rattle.mpi_call.specs.Collectives.{is_uncoloured}
 use Rattle.mpi_call.specs.Lists.{IsIn}
 use Rattle.mpi_call.specs.Needs.{needs}
 use Rattle.run_model.specs.declared.event.Event.{Event}
-use Rattle.run_model.specs.Allowed.{AreChosen, IsAllowedBy, IsAnswer, IsHeld, IsOne, IsPeekAnswer, IsStuck, IsTakeAnswer, first_long, flags_of, has_open, mode_holds, probe_of, taken_reply, true_places}
+use Rattle.run_model.specs.Allowed.{AreChosen, IsAllowed, IsAllowedBy, IsAnswer, IsDeadlock, IsHeld, IsLate, IsOne, IsPartReply, IsPeekAnswer, IsTakeAnswer, first_long, flags_of, has_open, mode_holds, probe_of, taken_reply, true_places}
 use Rattle.run_model.specs.Communicators.{Entered, enter_at, instance_of, members_for_rank}
 use Rattle.run_model.specs.Due.{due}
 use Rattle.run_model.specs.Inputs.{gather, inputs_of, is_gathered}
@@ -28,7 +30,7 @@ use Rattle.run_model.specs.Run.{IsEvent}
 use Rattle.run_model.specs.Shape.{is_test}
 use Rattle.run_model.specs.Views.{Next, View, moment_at, moment_of, start_at, view_of}
 use Rattle.run_model.proofs.Gathering.{pushed, with_some}
-use Rattle.run_model.proofs.TrueReplies.{allowed_true}
+use Rattle.run_model.proofs.TrueReplies.{reply_true}
 use Rattle.run_model.proofs.Views.{option_cases, test_cases}
 
 -- a start that a reply completes is ready, and gives this
@@ -133,12 +135,51 @@ allowed_completes : (halt : Option Halt) (stuck : Type 0) (n : ℕ) (before : Li
 allowed_completes None stuck n before me call items item is h = answer_completes stuck n before me call items item is h
 allowed_completes (Some halt) stuck n before me call items item is h = absurd (let no : Took items ≡ Stopped halt = is in cc)
 
+-- a part completes what is ready
+all_pass : (test : Item → Bool) (items : List Item) (item : Item) → list_all test items ≡ true → IsIn item items → test item ≡ true
+all_pass test [] item all h = absurd h
+all_pass test (x ∷ items) item all h =
+    let parts = and_parts (test x) (list_all test items) all in
+    elim h [
+      | inl e ↦ ap test (sym e) ∙ parts.0
+      | inr later ↦ all_pass test items item parts.1 later
+    ]
+
+part_completes : (n : ℕ) (before : List Event) (me : ℕ) (starts : List ℕ) (mode : TakeMode) (items : List Item) (item : Item)
+    → IsPartReply (moment_at n before me) starts mode (Took items) → IsIn item items → IsCompleted n before me (slice_index starts item.index) item.got
+part_completes n before me starts mode items item is h =
+    let own : View = view_of before me in
+    let same : is.items ≡ items = chosen_items me (first_long own starts is.items) is.items items is.reply_is in
+    let P : List Item → Type 0 = λ l. IsIn item l in
+    let there : IsIn item is.items = subst P (sym same) h in
+    record {
+      ready = all_pass (λ (i : Item). is_ready (moment_of n before me own) (slice_index starts i.index) (start_at own (slice_index starts i.index))) is.items item is.ready there;
+      gives = got_in n before me own starts is.items item is.gots there;
+    }
+
+late_completes : (n : ℕ) (before : List Event) (me : ℕ) (call : Call) (items : List Item) (item : Item)
+    → IsLate (moment_at n before me) call (Took items) → IsIn item items → IsCompleted n before me (slice_index (listed_by call) item.index) item.got
+late_completes n before me (Take starts mode) items item is h = elim is [
+  | inl not_yet ↦ absurd (let no : Took items ≡ NotYet = not_yet.2 in cc)
+  | inr part ↦ part_completes n before me starts mode items item part h
+]
+late_completes n before me (Peek comm source tag wait) items item is h = absurd (let no : Took items ≡ NotYet = is.1 in cc)
+late_completes n before me (Send comm dest tag ints sync) items item is h = absurd is
+late_completes n before me (Post comm source tag room) items item is h = absurd is
+late_completes n before me (Enter comm kind root op count ints) items item is h = absurd is
+late_completes n before me (Abort code) items item is h = absurd is
+late_completes n before me (Trap fault) items item is h = absurd is
+late_completes n before me End items item is h = absurd is
+
 -- so each item of a reply of a run
 pub item_completed : (next : Next) (n : ℕ) (before : List Event) (event : Event) (items : List Item) (item : Item) → IsEvent next n before event → event.reply ≡ Took items → IsIn item items
     → IsCompleted n before event.rank (slice_index (listed_by event.call) item.index) item.got
 item_completed next n before event items item is took h =
-    let A : Reply → Type 0 = λ reply. IsAllowedBy (due n before event.rank (view_of before event.rank) event.call) (IsStuck next n before) (moment_at n before event.rank) event.call reply in
-    allowed_completes (due n before event.rank (view_of before event.rank) event.call) (IsStuck next n before) n before event.rank event.call items item (subst A took is.reply) h
+    let A : Reply → Type 0 = λ reply. IsAllowed next n before event.rank event.call reply in
+    elim (subst A took is.reply) [
+      | inl given ↦ allowed_completes (due n before event.rank (view_of before event.rank) event.call) (IsDeadlock next n before) n before event.rank event.call items item given.0 h
+      | inr late ↦ late_completes n before event.rank event.call items item late.1 h
+    ]
 
 -- 1. a message comes from the partner
 
@@ -245,6 +286,6 @@ sync_paired n before me number got comm dest tag ints is start =
 pub peeked_sent : (next : Next) (n : ℕ) (before : List Event) (event : Event) (source start tag count : ℕ) → IsEvent next n before event → event.reply ≡ Peeked source start tag count
     → (call : Call) × (start_at (view_of before source) start ≡ Some call)
 peeked_sent next n before event source start tag count is peeked =
-    let A : Reply → Type 0 = λ reply. IsAllowedBy (due n before event.rank (view_of before event.rank) event.call) (IsStuck next n before) (moment_at n before event.rank) event.call reply in
-    let send = allowed_true (due n before event.rank (view_of before event.rank) event.call) (IsStuck next n before) n before (view_of before event.rank) event.rank event.call (Peeked source start tag count) (subst A peeked is.reply) in
+    let A : Reply → Type 0 = λ reply. IsAllowed next n before event.rank event.call reply in
+    let send = reply_true next n before event.rank event.call (Peeked source start tag count) (subst A peeked is.reply) in
     (Send send.comm send.dest tag send.ints send.sync, send.sent)

@@ -20,7 +20,7 @@ use Rattle.run_model.proofs.RunLaws.{IsRun-front}
 use Rattle.run_model.proofs.StartLemmas.{slice_get-append, slice_get-below, starts_of-append}
 use Rattle.run_model.proofs.Taken.{event_there}
 use Rattle.run_model.proofs.Views.{option_cases, test_cases, view_of-append}
-use Rattle.picked_runs.proofs.Grown.{pairs_from-append}
+use Rattle.run_model.proofs.Meeting.{pairs_from-append}
 use Rattle.causes.specs.Before.{IsBefore, IsDirectlyBefore, IsEventOfRank, PrecedesDirectly}
 use Rattle.causes.specs.Before.IsBefore.{path, step}
 use Rattle.causes.specs.Positions.{is_start_of, start_position}

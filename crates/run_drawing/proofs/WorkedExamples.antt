@@ -19,7 +19,7 @@ use Rattle.run_drawing.specs.Basis.{Basis}
 use Rattle.run_drawing.specs.Drawings.{drawn}
 
 abbrev event_of : ℕ → Call → Reply → Option ℕ → Event
-event_of rank call reply mate = record { rank = rank; call = call; reply = reply; mate = mate }
+event_of rank call reply mate = record { rank = rank; call = call; reply = reply; mate = mate; met = [] }
 
 abbrev mark : ℕ → ℕ → ℕ → Bool → DrawnMark
 mark rank number column is_wild = record { rank = rank; number = number; column = column; is_wild = is_wild }

@@ -7,11 +7,11 @@ use Rattle.mpi_call.specs.declared.call.Source.{Source}
 use Rattle.mpi_call.specs.declared.call.Tag.{Tag}
 use Rattle.mpi_call.specs.declared.call.TakeMode.{TakeMode}
 use Rattle.run_model.specs.declared.event.Event.{Event}
-use Rattle.run_model.specs.Allowed.{AreChosen, IsAllowed, IsAllowedBy, IsAnswer, IsHeld, IsPeekAnswer, IsStuck, IsTakeAnswer, can_go, first_long, flags_of, has_open, mode_holds, is_prompt, probe_of, taken_reply}
+use Rattle.run_model.specs.Allowed.{AreChosen, IsPrompt, IsAllowedBy, IsAnswer, IsHeld, IsPeekAnswer, IsStuck, IsTakeAnswer, can_go, first_long, flags_of, has_open, mode_holds, is_prompt, probe_of, taken_reply}
 use Rattle.run_model.specs.Choice.{choice, chosen_places}
 use Rattle.run_model.specs.Chosen.{chosen_answer, chosen_reply, halt_or, held_reply, items_of, peek_reply}
 use Rattle.run_model.specs.Due.{due}
-use Rattle.run_model.specs.Pairs.{IsMatched}
+use Rattle.run_model.specs.Pairs.{IsAllMatched}
 use Rattle.run_model.specs.Shape.{is_test}
 use Rattle.run_model.specs.Views.{Next, moment_at, view_of}
 use Rattle.run_model.proofs.ChosenGots.{chosen_are, gots_are, items_at-indices}
@@ -26,7 +26,7 @@ held_is : (test condition : Bool) (stuck : Type 0) → condition ≡ false → G
 held_is true condition stuck none goes = refl
 held_is false condition stuck none goes = elim goes [ inl t ↦ (let no : false ≡ true = sym none ∙ t in absurd (cc)) | inr s ↦ (s, refl) ]
 
-take_is : (condition : Bool) (stuck : Type 0) (n : ℕ) (before : List Event) (me : ℕ) (starts : List ℕ) (mode : TakeMode) → IsMatched before
+take_is : (condition : Bool) (stuck : Type 0) (n : ℕ) (before : List Event) (me : ℕ) (starts : List ℕ) (mode : TakeMode) → IsAllMatched before
     → mode_holds mode (flags_of (moment_at n before me) starts) ≡ condition
     → GoesOr (is_test mode || condition) stuck
     → IsTakeAnswer condition stuck (moment_at n before me) starts mode
@@ -55,7 +55,7 @@ peek_is None stuck n before me comm source tag wait all e goes =
     let F : Bool → Type 0 = λ b. IsPeekAnswer b stuck before (probe_of me comm source tag) wait (held_reply (not wait)) in
     subst F (sym none) (held_is (not wait) (has_open n before me comm source tag) stuck none goes)
 
-answer_is : (stuck : Type 0) (n : ℕ) (before : List Event) (me : ℕ) (call : Call) → IsMatched before → AllBelow n before
+answer_is : (stuck : Type 0) (n : ℕ) (before : List Event) (me : ℕ) (call : Call) → IsAllMatched before → AllBelow n before
     → GoesOr (is_prompt n before me (view_of before me) call) stuck
     → IsAnswer stuck (moment_at n before me) call (chosen_answer n before me (view_of before me) call)
 answer_is stuck n before me (Take starts mode) matched all goes =
@@ -69,14 +69,14 @@ answer_is stuck n before me (Abort code) matched all goes = refl
 answer_is stuck n before me (Trap fault) matched all goes = refl
 answer_is stuck n before me End matched all goes = refl
 
-allowed_by : (halt : Option Halt) (stuck : Type 0) (n : ℕ) (before : List Event) (me : ℕ) (call : Call) → IsMatched before → AllBelow n before
+allowed_by : (halt : Option Halt) (stuck : Type 0) (n : ℕ) (before : List Event) (me : ℕ) (call : Call) → IsAllMatched before → AllBelow n before
     → GoesOr (is_some halt || is_prompt n before me (view_of before me) call) stuck
     → IsAllowedBy halt stuck (moment_at n before me) call (halt_or halt (chosen_answer n before me (view_of before me) call))
 allowed_by (Some halt) stuck n before me call matched all goes = refl
 allowed_by None stuck n before me call matched all goes = answer_is stuck n before me call matched all goes
 
-pub reply_allowed : (next : Next) (n : ℕ) (before : List Event) (me : ℕ) (call : Call) → IsMatched before → AllBelow n before
+pub reply_allowed : (next : Next) (n : ℕ) (before : List Event) (me : ℕ) (call : Call) → IsAllMatched before → AllBelow n before
     → GoesOr (can_go n before me (view_of before me) call) (IsStuck next n before)
-    → IsAllowed next n before me call (chosen_reply n before me call)
+    → IsPrompt next n before me call (chosen_reply n before me call)
 reply_allowed next n before me call matched all goes =
     allowed_by (due n before me (view_of before me) call) (IsStuck next n before) n before me call matched all goes

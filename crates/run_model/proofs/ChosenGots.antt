@@ -19,7 +19,7 @@ use Rattle.run_model.specs.Choice.{chosen_places}
 use Rattle.run_model.specs.Chosen.{collected, collected_by, got_of, items_at, message_of}
 use Rattle.run_model.specs.Inputs.{inputs_of, is_gathered}
 use Rattle.run_model.specs.Numbers.{communicators_of, number_among, origin_of, same_origin}
-use Rattle.run_model.specs.Pairs.{IsMatched, Name, named, pairs_of, partner_of, post_accepts}
+use Rattle.run_model.specs.Pairs.{IsAllMatched, Name, named, pairs_of, partner_of, post_accepts}
 use Rattle.run_model.specs.Readiness.{AreGots, IsCollected, IsFrom, IsGot, IsMessage, is_ready}
 use Rattle.run_model.specs.Views.{View, moment_at, moment_of, start_at, view_of}
 use Rattle.run_model.proofs.Views.{option_cases, test_cases}
@@ -42,7 +42,7 @@ never_post : (post : ℕ) (call : Call) (sender comm : ℕ) (source : Source) (t
 never_post post (Post c s t r) sender comm source tag room h = cc
 never_post post call sender comm source tag room h = cc
 
-paired_message : (before : List Event) (me k comm : ℕ) (source : Source) (tag : Tag) (room : ℕ) → IsMatched before
+paired_message : (before : List Event) (me k comm : ℕ) (source : Source) (tag : Tag) (room : ℕ) → IsAllMatched before
     → start_at (view_of before me) k ≡ Some (Post comm source tag room) → is_some (partner_of (pairs_of before) (me, k)) ≡ true
     → IsMessage before me k (message_of before (partner_of (pairs_of before) (me, k)))
 paired_message before me k comm source tag room matched at h =
@@ -50,7 +50,7 @@ paired_message before me k comm source tag room matched at h =
       | inl some ↦
           let send : Name = some.0 in
           let F : Option Name → Type 0 = λ o. IsMessage before me k (message_of before o) in
-          subst F (sym some.1) (elim (matched.pairs_accept (me, k) send some.1) [
+          subst F (sym some.1) (elim (matched.matched.pairs_accept (me, k) send some.1) [
             | inl takes ↦
                 let calls : Some takes.post_call ≡ Some (Post comm source tag room) = sym takes.post_is ∙ at in
                 let post : takes.post_call ≡ Post comm source tag room = cc in
@@ -86,7 +86,7 @@ collected_is n before own me k enter (Ok inputs) e h =
     record { inputs = inputs; gathered = e; given = from_by (makes enter) (is_uncoloured enter) n before own me k enter inputs }
 collected_is n before own me k enter (Err missing) e h = absurd (cc)
 
-pub got_is : (n : ℕ) (before : List Event) (me k : ℕ) (start : Option Call) → IsMatched before → start_at (view_of before me) k ≡ start
+pub got_is : (n : ℕ) (before : List Event) (me k : ℕ) (start : Option Call) → IsAllMatched before → start_at (view_of before me) k ≡ start
     → is_ready (moment_at n before me) k start ≡ true
     → IsGot (moment_at n before me) k start (got_of (moment_at n before me) k start)
 got_is n before me k None matched at h = absurd (cc)
@@ -139,14 +139,14 @@ flag_at ready [] i flag h = absurd (cc)
 flag_at ready (k ∷ starts) zero flag h = cc
 flag_at ready (k ∷ starts) (suc i) flag h = flag_at ready starts i flag h
 
-gots_at : (n : ℕ) (before : List Event) (me : ℕ) (starts indices : List ℕ) → IsMatched before
+gots_at : (n : ℕ) (before : List Event) (me : ℕ) (starts indices : List ℕ) → IsAllMatched before
     → AllOf (λ i. is_ready (moment_at n before me) (slice_index starts i) (start_at (view_of before me) (slice_index starts i)) ≡ true) indices
     → AreGots (moment_at n before me) starts (items_at (moment_at n before me) starts indices)
 gots_at n before me starts [] matched all = tt
 gots_at n before me starts (i ∷ indices) matched all =
     (got_is n before me (slice_index starts i) (start_at (view_of before me) (slice_index starts i)) matched refl all.0, gots_at n before me starts indices matched all.1)
 
-pub gots_are : (n : ℕ) (before : List Event) (me : ℕ) (starts : List ℕ) (mode : TakeMode) → IsMatched before
+pub gots_are : (n : ℕ) (before : List Event) (me : ℕ) (starts : List ℕ) (mode : TakeMode) → IsAllMatched before
     → AreGots (moment_at n before me) starts (items_at (moment_at n before me) starts (chosen_places mode (flags_of (moment_at n before me) starts)))
 gots_are n before me starts mode matched =
     let own : View = view_of before me in

@@ -8,17 +8,17 @@ use Rattle.mpi_call.specs.declared.call.Halt.TheVariants.{Stuck}
 use Rattle.mpi_call.specs.declared.reply.Reply.{Reply}
 use Rattle.mpi_call.specs.declared.reply.Reply.TheVariants.{Stopped}
 use Rattle.run_model.specs.declared.event.Event.{Event}
-use Rattle.run_model.specs.Allowed.{IsAllowed, IsAllowedBy, IsAnswer, IsHeld, IsPeekAnswer, IsStuck, IsTakeAnswer, can_go, flags_of, has_open, mode_holds, is_prompt, probe_of}
+use Rattle.run_model.specs.Allowed.{IsPrompt, IsAllowedBy, IsAnswer, IsHeld, IsPeekAnswer, IsStuck, IsTakeAnswer, can_go, flags_of, has_open, mode_holds, is_prompt, probe_of}
 use Rattle.run_model.specs.Chosen.{IsChosenEvent, chosen_event, order_of}
 use Rattle.run_model.specs.Due.{due}
 use Rattle.run_model.specs.Lists.{Along}
 use Rattle.run_model.specs.MachineLaws.{OrderFixesRun}
-use Rattle.run_model.specs.Run.{IsEvent}
+use Rattle.run_model.specs.Run.{IsPromptEvent}
 use Rattle.run_model.specs.Shape.{is_test}
 use Rattle.run_model.specs.Views.{Next, View, moment_of, replies_in, view_of}
 
-same_events : (next : Next) (n : ℕ) (before one other : List Event) → Along (IsEvent next n) before one → Along (IsChosenEvent n) before one
-    → Along (IsEvent next n) before other → Along (IsChosenEvent n) before other → order_of one ≡ order_of other → one ≡ other
+same_events : (next : Next) (n : ℕ) (before one other : List Event) → Along (IsPromptEvent next n) before one → Along (IsChosenEvent n) before one
+    → Along (IsPromptEvent next n) before other → Along (IsChosenEvent n) before other → order_of one ≡ order_of other → one ≡ other
 same_events next n before [] [] run chosen run2 chosen2 same = refl
 same_events next n before [] (y ∷ other) run chosen run2 chosen2 same = absurd (cc)
 same_events next n before (x ∷ one) [] run chosen run2 chosen2 same = absurd (cc)
@@ -29,7 +29,7 @@ same_events next n before (x ∷ one) (y ∷ other) run chosen run2 chosen2 same
     let calls : Some x.call ≡ Some y.call = sym run.0.call ∙ (ap asked rank ∙ run2.0.call) in
     let call : x.call ≡ y.call = cc in
     let event : x ≡ y = chosen.0 ∙ (ap (λ r. chosen_event n before r x.call) rank ∙ (ap (λ c. chosen_event n before y.rank c) call ∙ sym chosen2.0)) in
-    let run_y : Along (IsEvent next n) (before ++ y ∷ []) one = (let F : Event → Type 0 = λ e. Along (IsEvent next n) (before ++ e ∷ []) one in subst F event run.1) in
+    let run_y : Along (IsPromptEvent next n) (before ++ y ∷ []) one = (let F : Event → Type 0 = λ e. Along (IsPromptEvent next n) (before ++ e ∷ []) one in subst F event run.1) in
     let chosen_y : Along (IsChosenEvent n) (before ++ y ∷ []) one = (let F : Event → Type 0 = λ e. Along (IsChosenEvent n) (before ++ e ∷ []) one in subst F event chosen.1) in
     let rest = same_events next n (before ++ y ∷ []) one other run_y chosen_y run2.1 chosen2.1 later in
     ap (λ e. e ∷ one) event ∙ ap (λ l. y ∷ l) rest
@@ -62,12 +62,12 @@ answer_stuck stuck n before own me (Abort code) reply h is = absurd (cc)
 answer_stuck stuck n before own me (Trap fault) reply h is = absurd (cc)
 answer_stuck stuck n before own me End reply h is = absurd (cc)
 
-allowed_stuck : (halt : Option Halt) (stuck : Type 0) (n : ℕ) (before : List Event) (own : View) (me : ℕ) (call : Call) (reply : Reply)
+pub allowed_stuck : (halt : Option Halt) (stuck : Type 0) (n : ℕ) (before : List Event) (own : View) (me : ℕ) (call : Call) (reply : Reply)
     → (is_some halt || is_prompt n before me own call) ≡ false → IsAllowedBy halt stuck (moment_of n before me own) call reply → reply ≡ Stopped Stuck
 allowed_stuck None stuck n before own me call reply h is = answer_stuck stuck n before own me call reply h is
 allowed_stuck (Some halt) stuck n before own me call reply h is = absurd (cc)
 
 pub cannot_go : (next : Next) (n : ℕ) (before : List Event) (me : ℕ) (call : Call) (reply : Reply)
-    → can_go n before me (view_of before me) call ≡ false → IsAllowed next n before me call reply → reply ≡ Stopped Stuck
+    → can_go n before me (view_of before me) call ≡ false → IsPrompt next n before me call reply → reply ≡ Stopped Stuck
 cannot_go next n before me call reply h is =
     allowed_stuck (due n before me (view_of before me) call) (IsStuck next n before) n before (view_of before me) me call reply h is

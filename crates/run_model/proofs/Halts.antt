@@ -12,7 +12,7 @@ use Rattle.mpi_call.specs.declared.reply.Item.{Item}
 use Rattle.mpi_call.specs.declared.reply.Reply.{Reply}
 use Rattle.mpi_call.specs.declared.reply.Reply.TheVariants.{Done, NotYet, Peeked, Stopped, Took}
 use Rattle.run_model.specs.declared.event.Event.{Event}
-use Rattle.run_model.specs.Allowed.{IsAllowed, IsAllowedBy, IsAnswer, IsHeld, IsPeekAnswer, IsStuck, IsTakeAnswer, first_long, flags_of, has_open, mode_holds, probe_of, taken_reply}
+use Rattle.run_model.specs.Allowed.{IsAllowed, IsAllowedBy, IsAnswer, IsDeadlock, IsHeld, IsLate, IsPeekAnswer, IsTakeAnswer, first_long, flags_of, has_open, mode_holds, probe_of, taken_reply}
 use Rattle.run_model.specs.Due.{bad_request, due, halt_at, halt_of_reply, halted, is_full, is_mismatched, or_else}
 use Rattle.run_model.specs.Run.{IsEvent}
 use Rattle.run_model.specs.Shape.{is_test}
@@ -73,6 +73,20 @@ answer_own stuck n before own me (Abort code) reply halt is h = done_own reply h
 answer_own stuck n before own me (Trap fault) reply halt is h = done_own reply halt me is h
 answer_own stuck n before own me End reply halt is h = done_own reply halt me is h
 
+late_own : (n : ℕ) (before : List Event) (own : View) (me : ℕ) (call : Call) (reply : Reply) (halt : Halt)
+    → IsLate (moment_of n before me own) call reply → reply ≡ Stopped halt → OwnHalt me halt
+late_own n before own me (Take starts mode) reply halt is h = elim is [
+  | inl not_yet ↦ (let no : NotYet ≡ Stopped halt = sym not_yet.2 ∙ h in absurd (cc))
+  | inr part ↦ taken_own (first_long own starts part.items) part.items reply halt me part.reply_is h
+]
+late_own n before own me (Peek comm source tag wait) reply halt is h = (let no : NotYet ≡ Stopped halt = sym is.1 ∙ h in absurd (cc))
+late_own n before own me (Send comm dest tag ints sync) reply halt is h = absurd is
+late_own n before own me (Post comm source tag room) reply halt is h = absurd is
+late_own n before own me (Enter comm kind root op count ints) reply halt is h = absurd is
+late_own n before own me (Abort code) reply halt is h = absurd is
+late_own n before own me (Trap fault) reply halt is h = absurd is
+late_own n before own me End reply halt is h = absurd is
+
 halt_at-own : (n : ℕ) (before : List Event) (own : View) (me : ℕ) (call : Call) (halt : Halt)
     → halt_at n before me own call ≡ Some halt → OwnHalt me halt
 halt_at-own n before own me (Abort code) halt h = (let e : Aborted me code ≡ halt = cc in subst (OwnHalt me) e (record { own = λ rank t. eqb-true me rank t }))
@@ -104,10 +118,13 @@ allowed_own : (next : Next) (n : ℕ) (before : List Event) (me : ℕ) (call : C
     → halted before ≡ None → IsAllowed next n before me call reply → reply ≡ Stopped halt → OwnHalt me halt
 allowed_own next n before me call reply halt none is h =
     let own : View = view_of before me in
-    let F : Option Halt → Type 0 = λ x. IsAllowedBy x (IsStuck next n before) (moment_of n before me own) call reply in
-    elim (option_cases (due n before me own call)) [
-      | inl some ↦ (let stopped : reply ≡ Stopped some.0 = subst F some.1 is in stopped_same some.0 halt reply me stopped h (first_own n before own me call some.0 none some.1))
-      | inr free ↦ answer_own (IsStuck next n before) n before own me call reply halt (subst F free is) h
+    let F : Option Halt → Type 0 = λ x. IsAllowedBy x (IsDeadlock next n before) (moment_of n before me own) call reply in
+    elim is [
+      | inl given ↦ elim (option_cases (due n before me own call)) [
+        | inl some ↦ (let stopped : reply ≡ Stopped some.0 = subst F some.1 given.0 in stopped_same some.0 halt reply me stopped h (first_own n before own me call some.0 none some.1))
+        | inr free ↦ answer_own (IsDeadlock next n before) n before own me call reply halt (subst F free given.0) h
+      ]
+      | inr late ↦ late_own n before own me call reply halt late.1 h
     ]
 
 -- a rank that was stopped

@@ -11,6 +11,7 @@ pub mod Enters
 pub mod TrueReplies
 pub mod Halts
 pub mod Matched
+pub mod Meeting
 pub mod Agreement
 pub mod MemberLists
 pub mod Instances
@@ -18,6 +19,7 @@ pub mod Origins
 pub mod TakeShapes
 pub mod Shapes
 pub mod RunLaws
+pub mod Prompt
 pub mod Orders
 pub mod Positions
 pub mod Taken
@@ -32,3 +34,7 @@ pub mod Numbered
 pub mod AllEntered
 pub mod GoingOn
 pub mod ChosenExamples
+pub mod LateMeeting
+mod ProbedMessages
+mod ProbedReceives
+mod LateExamples

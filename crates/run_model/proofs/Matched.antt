@@ -1,5 +1,5 @@
 -- A message that a receive gets is one that it accepts.
-use Rattle.std.proofs.Common.{◌&&◌, ◌==◌, ◌∙◌, ◌≡◌, Bool, List, None, Some, [], false, inl, inr, sym, true, ℕ, ℤ}
+use Rattle.std.proofs.Common.{◌&&◌, ◌==◌, ◌∙◌, ◌≡◌, Bool, List, Some, [], false, inl, inr, sym, true, ℕ, ℤ}
 use Rattle.std.proofs.lemmas.Bool.{and_parts}
 use Rattle.mpi_call.specs.declared.call.Call.TheVariants.{Post, Send}
 use Rattle.mpi_call.specs.declared.call.Source.{Source}
@@ -16,7 +16,6 @@ none_matched =
       one_partner = λ a b h. absurd (cc);
       no_overtaking = λ post sent h start less takes. absurd (cc);
       earliest_receive = λ post sent h start less takes. absurd (cc);
-      nothing_waits = λ post sent takes p q. (let no : None ≡ Some takes.post_call = takes.post_is in cc);
     }
 
 -- In a run, an entry fits its call, and breaks on no start.

@@ -6,6 +6,8 @@ use Rattle.mpi_call.specs.declared.call.Call.{Call}
 use Rattle.mpi_call.specs.declared.call.Call.TheVariants.{Abort, End, Enter, Peek, Post, Send, Take, Trap}
 use Rattle.mpi_call.specs.declared.call.Halt.{Halt}
 use Rattle.mpi_call.specs.declared.call.Halt.TheVariants.{Limit, Mismatched}
+use Rattle.mpi_call.specs.declared.call.Kind.{Kind}
+use Rattle.mpi_call.specs.declared.call.Op.{Op}
 use Rattle.mpi_call.specs.declared.call.Source.TheVariants.{Any, From, Null}
 use Rattle.mpi_call.specs.declared.reply.Got.{Got}
 use Rattle.mpi_call.specs.declared.reply.Got.TheVariants.{Joined, Made, Message, Nothing, Sent}
@@ -15,7 +17,7 @@ use Rattle.mpi_call.specs.declared.reply.Reply.TheVariants.{Done, NotYet, Peeked
 use Rattle.mpi_call.specs.Calls.{comm_of, is_enter, listed_by, makes}
 use Rattle.mpi_call.specs.Collectives.{agree, is_uncoloured, members_made}
 use Rattle.run_model.specs.declared.event.Event.{Event}
-use Rattle.run_model.specs.Allowed.{IsAllowed, IsAllowedBy, IsStuck}
+use Rattle.run_model.specs.Allowed.{IsAllowed, IsAllowedBy, IsDeadlock}
 use Rattle.run_model.specs.Communicators.{Entered, enter_at, instance_of, is_on, known_after, known_first, known_in, learned, made_in_got, made_in_items, members_for_rank, or_members}
 use Rattle.run_model.specs.Due.{disagrees, due, halted, is_full, is_mismatched}
 use Rattle.run_model.specs.Inputs.{inputs_of}
@@ -25,10 +27,10 @@ use Rattle.run_model.specs.Program.{IsInForm}
 use Rattle.run_model.specs.Readiness.{AreGots, IsFrom, IsGot}
 use Rattle.mpi_call.specs.Lists.{IsIn}
 use Rattle.run_model.specs.Run.{IsEvent, numbers_made, numbers_in_items, numbers_in_reply, numbers_in_view}
-use Rattle.run_model.specs.Views.{Next, View, is_start, moment_of, start_at, starts_of, view_of}
+use Rattle.run_model.specs.Views.{Next, View, is_start, moment_at, moment_of, start_at, starts_of, view_of}
 use Rattle.run_model.proofs.Enters.{known_after-append, not_world, take_all}
 use Rattle.run_model.proofs.Instances.{Enters, IsIn-front, KeepsInstances, Provenance, numbers_of-append}
-use Rattle.run_model.proofs.TrueReplies.{IsTrueReply, allowed_true}
+use Rattle.run_model.proofs.TrueReplies.{IsTrueReply, reply_true}
 use Rattle.run_model.proofs.Views.{option_cases, test_cases, view_of-mine, view_of-other}
 
 -- An event of a run keeps the instances apart.
@@ -148,6 +150,29 @@ world_any f (suc n) low m h above below =
           world_any f n (low + 1) m parts.1 (omega arith) (omega arith))
     ]
 
+given_enter : (stuck : Type 0) (n : ℕ) (before : List Event) (me c : ℕ) (kind : Kind) (root : Option ℕ) (op : Option Op) (count : ℕ) (ints : List ℤ) (reply : Reply)
+    → IsAllowedBy (due n before me (view_of before me) (Enter c kind root op count ints)) stuck (moment_at n before me) (Enter c kind root op count ints) reply
+    → is_start (Enter c kind root op count ints, reply) ≡ true → is_mismatched n before (view_of before me) (Enter c kind root op count ints) ≡ false
+given_enter stuck n before me c kind root op count ints reply is start =
+    let own : View = view_of before me in
+    let call : Call = Enter c kind root op count ints in
+    let F : Option Halt → Type 0 = λ x. IsAllowedBy x stuck (moment_of n before me own) call reply in
+    elim (option_cases (due n before me own call)) [
+      | inl some ↦ (
+          let stopped : reply ≡ Stopped some.0 = subst F some.1 is in
+          let no : false ≡ true = rw stopped at start in absurd (cc))
+      | inr free ↦ elim (option_cases (halted before)) [
+        | inl some ↦ (let no : Some some.0 ≡ None = rw some.1 at free in absurd (cc))
+        | inr none ↦ elim (test_cases (is_full before)) [
+          | inl t ↦ (let no : Some Limit ≡ None = rw (none, t) at free in absurd (cc))
+          | inr t ↦ elim (test_cases (is_mismatched n before own call)) [
+            | inl u ↦ (let no : Some (Mismatched me) ≡ None = rw (none, t, u) at free in absurd (cc))
+            | inr u ↦ u
+          ]
+        ]
+      ]
+    ]
+
 accepted_enter : (next : Next) (n : ℕ) (before : List Event) (me : ℕ) (call : Call) (reply : Reply) (comm : ℕ)
     → IsAllowed next n before me call reply → is_start (call, reply) ≡ true → is_on comm call ≡ true
     → (is_mismatched n before (view_of before me) call ≡ false) × (comm_of call ≡ comm)
@@ -158,27 +183,13 @@ accepted_enter next n before me (Peek c source tag wait) reply comm is start on 
 accepted_enter next n before me (Abort code) reply comm is start on = absurd (cc)
 accepted_enter next n before me (Trap fault) reply comm is start on = absurd (cc)
 accepted_enter next n before me End reply comm is start on = absurd (cc)
-accepted_enter next n before me (Enter c kind root op count ints) reply comm is start on =
-    let own : View = view_of before me in
-    let call : Call = Enter c kind root op count ints in
-    let F : Option Halt → Type 0 = λ x. IsAllowedBy x (IsStuck next n before) (moment_of n before me own) call reply in (
-      elim (option_cases (due n before me own call)) [
-        | inl some ↦ (
-            let stopped : reply ≡ Stopped some.0 = subst F some.1 is in
-            let no : false ≡ true = rw stopped at start in absurd (cc))
-        | inr free ↦ elim (option_cases (halted before)) [
-          | inl some ↦ (let no : Some some.0 ≡ None = rw some.1 at free in absurd (cc))
-          | inr none ↦ elim (test_cases (is_full before)) [
-            | inl t ↦ (let no : Some Limit ≡ None = rw (none, t) at free in absurd (cc))
-            | inr t ↦ elim (test_cases (is_mismatched n before own call)) [
-              | inl u ↦ (let no : Some (Mismatched me) ≡ None = rw (none, t, u) at free in absurd (cc))
-              | inr u ↦ u
-            ]
-          ]
-        ]
-      ],
-      eqb-true c comm on,
-    )
+accepted_enter next n before me (Enter c kind root op count ints) reply comm is start on = (
+  elim is [
+    | inl given ↦ given_enter (IsDeadlock next n before) n before me c kind root op count ints reply given.0 start
+    | inr late ↦ absurd late.1
+  ],
+  eqb-true c comm on,
+)
 
 agree_from : (n : ℕ) (before : List Event) (own : View) (call : Call) (m comm : ℕ) (entered : Entered) → m < n
     → is_mismatched n before own call ≡ false → comm_of call ≡ comm
@@ -242,7 +253,7 @@ KeepsInstances-event next n before event all form step =
           let real = not_world n comm own none in
           let after : known_after comm (known_in n own comm) ((event.call, event.reply) ∷ []) ≡ Some members = sym (known_after-append comm (known_first n comm) own ((event.call, event.reply) ∷ [])) ∙ (rw (view_of-mine before event event.rank refl) at known) in
           let learned_now : learned comm None event.reply ≡ Some members = rw none at after in
-          let true_reply = allowed_true (due n before event.rank own event.call) (IsStuck next n before) n before own event.rank event.call event.reply step.reply in
+          let true_reply = reply_true next n before event.rank event.call event.reply step.reply in
           let from = learned_from n before event.rank comm event.call event.reply members real true_reply learned_now in
           record { from = from.0; number = rw (view_of-mine before event event.rank refl, numbers_of-append own ((event.call, event.reply) ∷ []), append-nil) (IsIn-back (comm, from.0.k) (numbers_in_view own) (numbers_in_reply event.call event.reply) from.1) });
       numbered = step.numbered;

@@ -16,6 +16,7 @@ use Rattle.run_model.proofs.Along.{Along-back, Along-front, Along-keeps, Along-s
 use Rattle.run_model.proofs.Halts.{NamedStopped, is_stopped, named_more, names, was_stopped}
 use Rattle.run_model.proofs.Instances.{Instances, Instances-more}
 use Rattle.run_model.proofs.Matched.{none_matched}
+use Rattle.run_model.proofs.Meeting.{event_matched}
 use Rattle.run_model.specs.Forms.{AreMembers}
 use Rattle.run_model.proofs.MemberLists.{AreMembers-world}
 use Rattle.run_model.proofs.Origins.{AllBelow, AllBelow-more, KeepsInstances-event}
@@ -119,7 +120,7 @@ kept_more next n lawful some few before event kept step =
     record {
       instances = Instances-more n before event step.rank kept.instances (KeepsInstances-event next n before event kept.below form step);
       below = AllBelow-more n before event kept.below step.rank;
-      matched = step.matched;
+      matched = event_matched next n before event step;
       halts = named_more next n before event kept.halts step;
       came = λ rank low. came_more next n before event rank (kept.came rank low) step shaped;
     }

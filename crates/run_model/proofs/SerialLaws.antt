@@ -7,12 +7,13 @@ use Rattle.run_model.specs.Allowed.{can_go}
 use Rattle.run_model.specs.Chosen.{IsChosenEvent, chosen_event, order_of}
 use Rattle.run_model.specs.Lists.{Along, IsPrefixOf, world}
 use Rattle.run_model.specs.MachineLaws.{OrderBeginsSerial, SerialEnds, TurnsFixSerial, has_stuck, is_stuck_reply}
-use Rattle.run_model.specs.Run.{IsEvent}
+use Rattle.run_model.specs.Run.{IsPromptEvent}
 use Rattle.run_model.specs.Serial.{IsSerial, Stage, with_chosen_event, first_stage, attempt, attempt_with, attempts, call_after, is_stuck, others_wait, rounds}
 use Rattle.run_model.specs.Views.{Next, view_of}
 use Rattle.run_model.proofs.ChosenLaws.{cannot_go}
 use Rattle.run_model.proofs.Prefixes.{prefix_append, prefix_refl, prefix_trans}
-use Rattle.run_model.proofs.RunLaws.{Lawful, kept_run}
+use Rattle.run_model.proofs.Prompt.{kept_prompt}
+use Rattle.run_model.proofs.RunLaws.{Lawful}
 use Rattle.run_model.proofs.Views.{test_cases}
 
 -- attempts take no event back
@@ -77,7 +78,7 @@ turns_fix_serial next n turns one other s t =
 -- by the first law of programs
 pub serial_ends : (next : Next) (n : ℕ) → Lawful next → SerialEnds next n
 serial_ends next n lawful turns events s run rank below =
-    let kept = kept_run next n events lawful run in
+    let kept = kept_prompt next n events lawful run in
     (lawful.ends n rank (view_of events rank) (run.some, run.few, below) (kept.came rank below)).0 (s.ended rank below)
 
 -- an attempt of a call that can go
@@ -86,7 +87,7 @@ went : (next : Next) (n : ℕ) (stage : Stage) (rank : ℕ) (call : Call) → ca
 went next n stage rank call goes = rw goes
 
 -- turns in the order of a run of the machine make it again
-follow : (next : Next) (n : ℕ) (before run : List Event) (waiting : List ℕ) → Along (IsEvent next n) before run → Along (IsChosenEvent n) before run
+follow : (next : Next) (n : ℕ) (before run : List Event) (waiting : List ℕ) → Along (IsPromptEvent next n) before run → Along (IsChosenEvent n) before run
     → has_stuck run ≡ false
     → (attempts next n (record { events = before; waiting = waiting }) (order_of run)).events ≡ before ++ run
 follow next n before [] waiting events chosen free = sym (append-nil before)

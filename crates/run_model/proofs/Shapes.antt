@@ -1,6 +1,6 @@
 -- In a run each reply has the shape of its call.
 use Rattle.std.proofs.Common.{◌<◌, ◌==◌, ◌||◌, ◌∷◌, ◌≡◌, Bool, List, None, Ok, Option, Some, [], false, inl, inr, length, map, nat_le, nat_lt, not, refl, slice_index, subst, sym, true, ℕ, ℤ}
-use Rattle.std.proofs.lemmas.Bool.{eq-eqb, le-leb, ltb-false, not_from_false, or_left, or_right}
+use Rattle.std.proofs.lemmas.Bool.{eq-eqb, le-leb, lt-ltb, ltb-false, not_from_false, or_left, or_right}
 use Rattle.std.proofs.lemmas.List.{length-map}
 use Rattle.mpi_call.specs.declared.call.Call.{Call}
 use Rattle.mpi_call.specs.declared.call.Call.TheVariants.{Abort, End, Enter, Peek, Post, Send, Take, Trap}
@@ -13,6 +13,7 @@ use Rattle.mpi_call.specs.declared.call.Source.{Source}
 use Rattle.mpi_call.specs.declared.call.Source.TheVariants.{Any, From, Null}
 use Rattle.mpi_call.specs.declared.call.Tag.{Tag}
 use Rattle.mpi_call.specs.declared.call.TakeMode.{TakeMode}
+use Rattle.mpi_call.specs.declared.call.TakeMode.TheVariants.{All, Any as AnyOne, Several, TestAll, TestAny, TestSeveral}
 use Rattle.mpi_call.specs.declared.reply.Got.{Got}
 use Rattle.mpi_call.specs.declared.reply.Got.TheVariants.{Made}
 use Rattle.mpi_call.specs.declared.reply.Item.{Item}
@@ -25,7 +26,7 @@ use Rattle.mpi_call.specs.Halts.{fault_number}
 use Rattle.mpi_call.proofs.MadeLemmas.{int_eq-itself}
 use Rattle.mpi_call.proofs.ResultLemmas.{length-result_of}
 use Rattle.run_model.specs.declared.event.Event.{Event}
-use Rattle.run_model.specs.Allowed.{IsAllowed, IsAllowedBy, IsHeld, IsPeekAnswer, IsStuck, IsTakeAnswer, first_long, flags_of, has_open, mode_holds, is_long, probe_of, taken_reply}
+use Rattle.run_model.specs.Allowed.{IsAllowed, IsAllowedBy, IsDeadlock, IsHeld, IsLate, IsPeekAnswer, IsTakeAnswer, first_long, flags_of, has_open, is_long, is_some_mode, mode_holds, probe_of, taken_reply}
 use Rattle.run_model.specs.Communicators.{members_for_rank}
 use Rattle.run_model.specs.Due.{bad_request, due, halt_at, halted, is_full, is_mismatched}
 use Rattle.run_model.specs.Inputs.{inputs_of}
@@ -273,12 +274,12 @@ answer_shaped n before me (Take starts mode) halt stuck reply matched of h is =
 pub record Unnamed (before : List Event) (me : ℕ) : Type 0 where
   pub unnamed : (halt : Halt) → halted before ≡ Some halt → names me halt ≡ false
 
-pub allowed_shaped : (next : Next) (n : ℕ) (before : List Event) (me : ℕ) (call : Call) (reply : Reply) → IsMatched before
-    → Collects n before me → Unnamed before me → IsAllowed next n before me call reply
+given_shaped : (stuck : Type 0) (n : ℕ) (before : List Event) (me : ℕ) (call : Call) (reply : Reply) → IsMatched before
+    → Collects n before me → Unnamed before me → IsAllowedBy (due n before me (view_of before me) call) stuck (moment_at n before me) call reply
     → has_shape n me (view_of before me) call reply ≡ true
-allowed_shaped next n before me call reply matched of unnamed is =
+given_shaped stuck n before me call reply matched of unnamed is =
     let own : View = view_of before me in
-    let F : Option Halt → Type 0 = λ x. IsAllowedBy x (IsStuck next n before) (moment_of n before me own) call reply in
+    let F : Option Halt → Type 0 = λ x. IsAllowedBy x stuck (moment_of n before me own) call reply in
     elim (option_cases (halted before)) [
       | inl some ↦ (
           let e : due n before me own call ≡ Some some.0 = rw some.1 in
@@ -289,6 +290,59 @@ allowed_shaped next n before me call reply matched of unnamed is =
             stopped_shaped n me own call Limit reply (subst F e is) refl)
         | inr t ↦ (
             let e : due n before me own call ≡ halt_at n before me own call = rw (none, t) in
-            answer_shaped n before me call (halt_at n before me own call) (IsStuck next n before) reply matched of refl (subst F e is))
+            answer_shaped n before me call (halt_at n before me own call) stuck reply matched of refl (subst F e is))
       ]
+    ]
+
+-- a list of starts is in order where no halt is due
+free_request : (n : ℕ) (before : List Event) (me : ℕ) (starts : List ℕ) (mode : TakeMode) → due n before me (view_of before me) (Take starts mode) ≡ None
+    → bad_request (view_of before me) [] starts ≡ None
+free_request n before me starts mode free =
+    let own : View = view_of before me in
+    elim (option_cases (bad_request own [] starts)) [
+      | inl bad ↦ absurd (elim (option_cases (halted before)) [
+        | inl some ↦ (let no : Some some.0 ≡ None = rw some.1 at free in cc)
+        | inr none ↦ elim (test_cases (is_full before)) [
+          | inl t ↦ (let no : Some Limit ≡ None = rw (none, t) at free in cc)
+          | inr t ↦ (let no : Some (BadRequest me bad.0) ≡ None = rw (none, t, bad.1) at free in cc)
+        ]
+      ])
+      | inr good ↦ good
+    ]
+
+part_count : (mode : TakeMode) (starts items : ℕ) → is_some_mode mode ≡ true → 0 < items → has_count mode starts items ≡ true
+part_count Several starts items is some = lt-ltb 0 items some
+part_count TestSeveral starts items is some = lt-ltb 0 items some
+part_count All starts items is some = absurd (cc)
+part_count AnyOne starts items is some = absurd (cc)
+part_count TestAll starts items is some = absurd (cc)
+part_count TestAny starts items is some = absurd (cc)
+
+late_shaped : (n : ℕ) (before : List Event) (me : ℕ) (call : Call) (reply : Reply) → IsMatched before
+    → Collects n before me → due n before me (view_of before me) call ≡ None → IsLate (moment_at n before me) call reply
+    → has_shape n me (view_of before me) call reply ≡ true
+late_shaped n before me (Take starts mode) reply matched of free is = elim is [
+  | inl not_yet ↦ rw (not_yet.2, not_yet.0)
+  | inr part ↦ (
+      let own : View = view_of before me in
+      let many : has_count mode (length starts) (length (map (λ (item : Item). item.index) part.items)) ≡ true =
+      rw length-map (part_count mode (length starts) (length part.items) part.mode_is part.some) in
+      taken_shaped n before me starts mode (first_long own starts part.items) part.items reply matched of (free_request n before me starts mode free) refl part.reply_is
+      (record { count = many; rising = part.rising }) part.gots)
+]
+late_shaped n before me (Peek comm source tag wait) reply matched of free is = rw (is.1, is.0)
+late_shaped n before me (Send comm dest tag ints sync) reply matched of free is = absurd is
+late_shaped n before me (Post comm source tag room) reply matched of free is = absurd is
+late_shaped n before me (Enter comm kind root op count ints) reply matched of free is = absurd is
+late_shaped n before me (Abort code) reply matched of free is = absurd is
+late_shaped n before me (Trap fault) reply matched of free is = absurd is
+late_shaped n before me End reply matched of free is = absurd is
+
+pub allowed_shaped : (next : Next) (n : ℕ) (before : List Event) (me : ℕ) (call : Call) (reply : Reply) → IsMatched before
+    → Collects n before me → Unnamed before me → IsAllowed next n before me call reply
+    → has_shape n me (view_of before me) call reply ≡ true
+allowed_shaped next n before me call reply matched of unnamed is =
+    elim is [
+      | inl given ↦ given_shaped (IsDeadlock next n before) n before me call reply matched of unnamed given.0
+      | inr late ↦ late_shaped n before me call reply matched of late.0 late.1
     ]

@@ -19,7 +19,7 @@ use Rattle.mpi_call.specs.Calls.{listed_by}
 use Rattle.mpi_call.specs.Members.{is_distinct, is_member}
 use Rattle.mpi_call.proofs.MemberLemmas.{is_member_at}
 use Rattle.run_model.specs.declared.event.Event.{Event}
-use Rattle.run_model.specs.Allowed.{IsAllowed, IsAllowedBy, IsAnswer, IsHeld, IsPeekAnswer, IsStuck, IsTakeAnswer, first_long, flags_of, has_open, mode_holds, probe_of, taken_reply}
+use Rattle.run_model.specs.Allowed.{IsAllowed, IsAllowedBy, IsAnswer, IsDeadlock, IsHeld, IsLate, IsPeekAnswer, IsTakeAnswer, first_long, flags_of, has_open, mode_holds, probe_of, taken_reply}
 use Rattle.run_model.specs.Due.{bad_halt, bad_request, due, halt_at, halted, is_full, or_else}
 use Rattle.run_model.specs.Readiness.{AreGots}
 use Rattle.run_model.specs.Run.{IsEvent, IsRun}
@@ -162,12 +162,15 @@ nothing_due : (next : Next) (n : ℕ) (before : List Event) (me : ℕ) (call : C
     → is_stopped reply ≡ false → due n before me (view_of before me) call ≡ None
 nothing_due next n before me call reply is going =
     let own : View = view_of before me in
-    let F : Option Halt → Type 0 = λ x. IsAllowedBy x (IsStuck next n before) (moment_of n before me own) call reply in
-    elim (option_cases (due n before me own call)) [
-      | inl some ↦ (
-          let stopped : reply ≡ Stopped some.0 = subst F some.1 is in
-          absurd (let no : true ≡ false = rw stopped at going in cc))
-      | inr none ↦ none
+    let F : Option Halt → Type 0 = λ x. IsAllowedBy x (IsDeadlock next n before) (moment_of n before me own) call reply in
+    elim is [
+      | inl given ↦ elim (option_cases (due n before me own call)) [
+        | inl some ↦ (
+            let stopped : reply ≡ Stopped some.0 = subst F some.1 given.0 in
+            absurd (let no : true ≡ false = rw stopped at going in cc))
+        | inr none ↦ none
+      ]
+      | inr late ↦ late.0
     ]
 
 good_list : (own : View) (me : ℕ) (starts : List ℕ) (found : Option ℕ) → bad_request own [] starts ≡ found → bad_halt me found ≡ None
@@ -227,11 +230,10 @@ pub record AreTaken (n : ℕ) (before : List Event) (me : ℕ) (starts : List �
   pub few : length items ≤ length starts
   pub fresh : (k : ℕ) → is_member (items_taken starts items) k ≡ true → is_member (taken_of (view_of before me)) k ≡ false
 
-are_taken : (stuck : Type 0) (n : ℕ) (before : List Event) (me : ℕ) (call : Call) (items : List Item) → due n before me (view_of before me) call ≡ None
-    → IsAnswer stuck (moment_at n before me) call (Took items) → AreTaken n before me (listed_by call) items
-are_taken stuck n before me (Take starts mode) items free is =
+taken_as : (n : ℕ) (before : List Event) (me : ℕ) (starts : List ℕ) (mode : TakeMode) (items : List Item) → due n before me (view_of before me) (Take starts mode) ≡ None
+    → AreOf n before me starts items → AreTaken n before me starts items
+taken_as n before me starts mode items free of =
     let own : View = view_of before me in
-    let of = take_of (mode_holds mode (flags_of (moment_of n before me own) starts)) stuck n before me starts mode items refl is in
     let listed = listed_once own [] starts (good_request n before me starts mode free) in
     let many = few_items (length starts) 0 items (omega arith) of.rising in
     record {
@@ -240,6 +242,30 @@ are_taken stuck n before me (Take starts mode) items free is =
       few = omega (arith, many);
       fresh = λ k there. listed.fresh k (listed_there starts items k of.rising there);
     }
+
+late_taken : (n : ℕ) (before : List Event) (me : ℕ) (call : Call) (items : List Item) → due n before me (view_of before me) call ≡ None
+    → IsLate (moment_at n before me) call (Took items) → AreTaken n before me (listed_by call) items
+late_taken n before me (Take starts mode) items free is = elim is [
+  | inl not_yet ↦ absurd (let no : Took items ≡ NotYet = not_yet.2 in cc)
+  | inr part ↦ (
+      let own : View = view_of before me in
+      let same : part.items ≡ items = chosen_items me (first_long own starts part.items) part.items items part.reply_is in
+      let F : List Item → Type 0 = λ l. rise_within 0 (length starts) (indices_of l) ≡ true in
+      let G : List Item → Type 0 = λ l. AreGots (moment_of n before me own) starts l in
+      taken_as n before me starts mode items free (record { rising = subst F same part.rising; gots = subst G same part.gots }))
+]
+late_taken n before me (Peek comm source tag wait) items free is = absurd (let no : Took items ≡ NotYet = is.1 in cc)
+late_taken n before me (Send comm dest tag ints sync) items free is = absurd is
+late_taken n before me (Post comm source tag room) items free is = absurd is
+late_taken n before me (Enter comm kind root op count ints) items free is = absurd is
+late_taken n before me (Abort code) items free is = absurd is
+late_taken n before me (Trap fault) items free is = absurd is
+late_taken n before me End items free is = absurd is
+
+are_taken : (stuck : Type 0) (n : ℕ) (before : List Event) (me : ℕ) (call : Call) (items : List Item) → due n before me (view_of before me) call ≡ None
+    → IsAnswer stuck (moment_at n before me) call (Took items) → AreTaken n before me (listed_by call) items
+are_taken stuck n before me (Take starts mode) items free is =
+    taken_as n before me starts mode items free (take_of (mode_holds mode (flags_of (moment_at n before me) starts)) stuck n before me starts mode items refl is)
 are_taken stuck n before me (Send comm dest tag ints sync) items free is = absurd (let no : Took items ≡ Done = is in cc)
 are_taken stuck n before me (Post comm source tag room) items free is = absurd (let no : Took items ≡ Done = is in cc)
 are_taken stuck n before me (Enter comm kind root op count ints) items free is = absurd (let no : Took items ≡ Done = is in cc)
@@ -257,8 +283,11 @@ reply_taken next n before event items step took =
     let A : Reply → Type 0 = λ reply. IsAllowed next n before me event.call reply in
     let allowed : A (Took items) = subst A took step.reply in
     let free = nothing_due next n before me event.call (Took items) allowed refl in
-    let F : Option Halt → Type 0 = λ x. IsAllowedBy x (IsStuck next n before) (moment_of n before me own) event.call (Took items) in
-    are_taken (IsStuck next n before) n before me event.call items free (subst F free allowed)
+    let F : Option Halt → Type 0 = λ x. IsAllowedBy x (IsDeadlock next n before) (moment_of n before me own) event.call (Took items) in
+    elim allowed [
+      | inl given ↦ are_taken (IsDeadlock next n before) n before me event.call items free (subst F free given.0)
+      | inr late ↦ late_taken n before me event.call items late.0 late.1
+    ]
 
 -- 4. runs
 

@@ -1,5 +1,5 @@
 -- What an allowed reply says of the events before it.
-use Rattle.std.proofs.Common.{◌≡◌, Bool, List, None, Option, Some, false, length, not, refl, true, ℕ, ℤ}
+use Rattle.std.proofs.Common.{◌≡◌, Bool, List, None, Option, Some, false, inl, inr, length, not, refl, true, ℕ, ℤ}
 use Rattle.mpi_call.specs.declared.call.Call.{Call}
 use Rattle.mpi_call.specs.declared.call.Call.TheVariants.{Abort, End, Enter, Peek, Post, Send, Take, Trap}
 use Rattle.mpi_call.specs.declared.call.Halt.{Halt}
@@ -12,10 +12,11 @@ use Rattle.mpi_call.specs.declared.reply.Reply.TheVariants.{Done, NotYet, Peeked
 use Rattle.mpi_call.specs.Acceptance.{accepts}
 use Rattle.mpi_call.specs.Calls.{listed_by}
 use Rattle.run_model.specs.declared.event.Event.{Event}
-use Rattle.run_model.specs.Allowed.{IsAllowedBy, IsAnswer, IsHeld, IsPeekAnswer, IsTakeAnswer, first_long, flags_of, has_open, mode_holds, probe_of, taken_reply}
+use Rattle.run_model.specs.Allowed.{IsAllowed, IsAllowedBy, IsAnswer, IsDeadlock, IsHeld, IsLate, IsPeekAnswer, IsTakeAnswer, first_long, flags_of, has_open, mode_holds, probe_of, taken_reply}
 use Rattle.run_model.specs.Readiness.{AreGots}
+use Rattle.run_model.specs.Due.{due}
 use Rattle.run_model.specs.Shape.{is_test}
-use Rattle.run_model.specs.Views.{View, moment_of, start_at, view_of}
+use Rattle.run_model.specs.Views.{Next, View, moment_of, start_at, view_of}
 
 -- a probe accepts a message
 abbrev pub probe_accepts : ℕ → Call → ℕ → Call → Bool
@@ -79,3 +80,24 @@ pub allowed_true : (halt : Option Halt) (stuck : Type 0) (n : ℕ) (before : Lis
     → IsAllowedBy halt stuck (moment_of n before me own) call reply → IsTrueReply n before own me call reply
 allowed_true None stuck n before own me call reply is = answer_true stuck n before own me call reply is
 allowed_true (Some halt) stuck n before own me call reply is = rw is tt
+
+late_true : (n : ℕ) (before : List Event) (own : View) (me : ℕ) (call : Call) (reply : Reply)
+    → IsLate (moment_of n before me own) call reply → IsTrueReply n before own me call reply
+late_true n before own me (Take starts mode) reply is = elim is [
+  | inl not_yet ↦ rw not_yet.2 tt
+  | inr part ↦ taken_true n before own me starts mode (first_long own starts part.items) part.items reply part.gots part.reply_is
+]
+late_true n before own me (Peek comm source tag wait) reply is = rw is.1 tt
+late_true n before own me (Send comm dest tag ints sync) reply is = absurd is
+late_true n before own me (Post comm source tag room) reply is = absurd is
+late_true n before own me (Enter comm kind root op count ints) reply is = absurd is
+late_true n before own me (Abort code) reply is = absurd is
+late_true n before own me (Trap fault) reply is = absurd is
+late_true n before own me End reply is = absurd is
+
+pub reply_true : (next : Next) (n : ℕ) (before : List Event) (me : ℕ) (call : Call) (reply : Reply)
+    → IsAllowed next n before me call reply → IsTrueReply n before (view_of before me) me call reply
+reply_true next n before me call reply is = elim is [
+  | inl given ↦ allowed_true (due n before me (view_of before me) call) (IsDeadlock next n before) n before (view_of before me) me call reply given.0
+  | inr late ↦ late_true n before (view_of before me) me call reply late.1
+]

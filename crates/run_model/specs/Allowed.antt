@@ -1,6 +1,6 @@
 -- The replies that are allowed to a call, after the events before it.
 -- (MPI 3.1, "Multiple Completions", "Probe and Cancel".)
-use Rattle.std.specs.Prelude.{◌≡◌, ◌+◌, ◌<◌, ℕ, ℤ, List, [], ◌∷◌, Option, Some, None, Bool, true, false, not, ◌&&◌, ◌||◌, if◌then◌else◌, nat_lt, map, length, slice_get, slice_index, is_some, IsTrue}
+use Rattle.std.specs.Prelude.{◌≡◌, ◌⊎◌, ◌+◌, ◌<◌, ℕ, ℤ, List, [], ◌∷◌, Option, Some, None, Bool, true, false, not, ◌&&◌, ◌||◌, if◌then◌else◌, nat_lt, map, length, slice_get, slice_index, is_some, IsTrue}
 use Rattle.std.specs.List.{list_any, list_all}
 use Rattle.mpi_call.specs.declared.call.Call.{Call}
 use Rattle.mpi_call.specs.declared.call.Call.TheVariants.{Send, Post, Take, Peek}
@@ -9,18 +9,19 @@ use Rattle.mpi_call.specs.declared.call.Halt.TheVariants.{Truncated, Stuck}
 use Rattle.mpi_call.specs.declared.call.Source.{Source}
 use Rattle.mpi_call.specs.declared.call.Tag.{Tag}
 use Rattle.mpi_call.specs.declared.call.TakeMode.{TakeMode}
-use Rattle.mpi_call.specs.declared.call.TakeMode.TheVariants.{All, Any as AnyOne, TestAll, TestAny}
+use Rattle.mpi_call.specs.declared.call.TakeMode.TheVariants.{All, Any as AnyOne, Several, TestAll, TestAny, TestSeveral}
 use Rattle.mpi_call.specs.declared.reply.Got.{Got}
 use Rattle.mpi_call.specs.declared.reply.Got.TheVariants.{Message}
 use Rattle.mpi_call.specs.declared.reply.Item.{Item}
 use Rattle.mpi_call.specs.declared.reply.Reply.{Reply}
 use Rattle.mpi_call.specs.declared.reply.Reply.TheVariants.{Done, Took, NotYet, Peeked, Stopped}
 use Rattle.mpi_call.specs.Acceptance.{accepts}
+use Rattle.mpi_call.specs.Lists.{IsIn}
 use Rattle.run_model.specs.declared.event.Event.{Event}
 use Rattle.run_model.specs.Lists.{world}
 use Rattle.run_model.specs.Views.{Moment, View, Next, moment_at, moment_of, view_of, replies_in, starts_of, start_at}
-use Rattle.run_model.specs.Pairs.{Name, named, pairs_of, partner_of}
-use Rattle.run_model.specs.Shape.{is_test}
+use Rattle.run_model.specs.Pairs.{Name, NothingWaits, PostAccepts, named, pairs_of, partner_of}
+use Rattle.run_model.specs.Shape.{is_test, rise_within}
 use Rattle.run_model.specs.Readiness.{is_ready, AreGots}
 use Rattle.run_model.specs.Due.{due}
 
@@ -158,7 +159,62 @@ abbrev pub IsAllowedBy : Option Halt → Type 0 → Moment → Call → Reply �
 IsAllowedBy (Some halt) stuck moment call reply = reply ≡ Stopped halt
 IsAllowedBy None stuck moment call reply = IsAnswer stuck moment call reply
 
+-- the replies that are given at once to the call of rank `me`: where what it waits for is there, that
+abbrev pub IsPrompt : Next → ℕ → List Event → ℕ → Call → Reply → Type 0
+IsPrompt next n before me call reply =
+    IsAllowedBy (due n before me (view_of before me) call) (IsStuck next n before) (moment_at n before me) call reply
+
+-- no live rank's next call can go, and no pair can meet (progress: while a receive and a send can meet, the run is not stuck)
+abbrev pub IsDeadlock : Next → ℕ → List Event → Type 0
+IsDeadlock next n before = IsStuck next n before × NothingWaits (named before) (pairs_of before)
+
+-- a probe finds no message that an earlier receive of its rank accepts, unless that has another: it finds what a receive "executed at
+-- the same point in the program" could get
+abbrev pub IsPassed : List Event → ℕ → Reply → Type 0
+IsPassed before me (Peeked source start tag count) =
+    (number : ℕ) → PostAccepts (named before) (me, number) (source, start) → is_some (partner_of (pairs_of before) (me, number)) ≡ true
+IsPassed before me reply = Unit {0}
+
+-- Waitsome and Testsome
+abbrev pub is_some_mode : TakeMode → Bool
+is_some_mode Several = true
+is_some_mode TestSeveral = true
+is_some_mode mode = false
+
+-- some of the listed starts that are ready, at least one
+pub record IsPartReply (moment : Moment) (starts : List ℕ) (mode : TakeMode) (reply : Reply) : Type 0 where
+  pub items : List Item
+  pub mode_is : is_some_mode mode ≡ true
+  pub some : 0 < length items
+  pub rising : rise_within 0 (length starts) (map (λ (item : Item). item.index) items) ≡ true
+  pub ready : list_all (λ (item : Item). is_ready moment (slice_index starts item.index) (start_at moment.own (slice_index starts item.index))) items ≡ true
+  pub gots : AreGots moment starts items
+  pub reply_is : reply ≡ taken_reply moment.me (first_long moment.own starts items) items
+
+-- a message that an earlier probe of the rank found is there still: this probe accepts it, it is unpaired, and no earlier receive
+-- of the rank accepts it, unless that has another
+pub record IsFound (moment : Moment) (comm : ℕ) (source : Source) (tag : Tag) : Type 0 where
+  pub send : Name
+  pub call : Call
+  pub t : ℕ
+  pub count : ℕ
+  pub found : IsIn (Peeked send.0 send.1 t count) (replies_in moment.own)
+  pub sent : named moment.before send ≡ Some call
+  pub accepted : accepts moment.me comm source tag send.0 call ≡ true
+  pub unpaired : partner_of (pairs_of moment.before) send ≡ None
+  pub passed : IsPassed moment.before moment.me (Peeked send.0 send.1 t count)
+
+-- the replies that may be given although there is more: NotYet to a test, or to a probe that does not wait and whose rank has found
+-- no such message; a part to Waitsome
+-- (MPI 3.1, "Communication Completion", "Multiple Completions", "Probe": a test succeeds in the end, not at once)
+abbrev pub IsLate : Moment → Call → Reply → Type 0
+IsLate moment (Take starts mode) reply =
+    ((is_test mode ≡ true) × (0 < length starts) × (reply ≡ NotYet)) ⊎ IsPartReply moment starts mode reply
+IsLate moment (Peek comm source tag wait) reply = (wait ≡ false) × (reply ≡ NotYet) × (IsFound moment comm source tag → ⊥)
+IsLate moment call reply = ⊥
+
 -- the allowed replies to the call of rank `me`
 abbrev pub IsAllowed : Next → ℕ → List Event → ℕ → Call → Reply → Type 0
 IsAllowed next n before me call reply =
-    IsAllowedBy (due n before me (view_of before me) call) (IsStuck next n before) (moment_at n before me) call reply
+    (IsAllowedBy (due n before me (view_of before me) call) (IsDeadlock next n before) (moment_at n before me) call reply × IsPassed before me reply)
+    ⊎ ((due n before me (view_of before me) call ≡ None) × IsLate (moment_at n before me) call reply)

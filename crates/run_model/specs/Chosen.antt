@@ -21,7 +21,7 @@ use Rattle.run_model.specs.Pairs.{Name, name_at, named, pairs_of, partner_of}
 use Rattle.run_model.specs.Shape.{is_test}
 use Rattle.run_model.specs.Allowed.{first_long, flags_of, mode_holds, taken_reply}
 use Rattle.run_model.specs.Due.{due}
-use Rattle.run_model.specs.Run.{IsRun}
+use Rattle.run_model.specs.Run.{IsPromptRun}
 use Rattle.run_model.specs.Choice.{choice, chosen_places, chosen_mate}
 use Rattle.run_model.specs.Numbers.{communicators_of, number_among, origin_of}
 
@@ -108,7 +108,7 @@ chosen_reply n before me call = halt_or (due n before me (view_of before me) cal
 -- the event that the machine appends for a rank's call
 abbrev pub chosen_event : ℕ → List Event → ℕ → Call → Event
 chosen_event n before rank call =
-    record { rank = rank; call = call; reply = chosen_reply n before rank call; mate = chosen_mate before rank call (chosen_reply n before rank call) }
+    record { rank = rank; call = call; reply = chosen_reply n before rank call; mate = chosen_mate before rank call (chosen_reply n before rank call); met = [] }
 
 -- an event is the machine's, after those before it
 abbrev pub IsChosenEvent : ℕ → List Event → Event → Type 0
@@ -116,7 +116,7 @@ IsChosenEvent n before event = event ≡ chosen_event n before event.rank event.
 
 -- a run each of whose events is the machine's
 pub record IsChosen (next : Next) (n : ℕ) (events : List Event) : Type 0 where
-  pub run : IsRun next n events
+  pub run : IsPromptRun next n events
   pub along : Along (IsChosenEvent n) [] events
 
 -- the order of a history: whose event each is

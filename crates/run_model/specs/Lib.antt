@@ -8,6 +8,7 @@ pub mod Readiness
 pub mod Due
 pub mod Allowed
 pub mod Run
+pub mod Meetings
 pub mod Program
 pub mod Fits
 pub mod Forms
@@ -16,5 +17,6 @@ pub mod Numbers
 pub mod Chosen
 pub mod Serial
 pub mod MachineLaws
+pub mod ProbeLaws
 pub mod Endings
 pub mod ByRank

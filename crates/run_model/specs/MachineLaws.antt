@@ -9,8 +9,8 @@ use Rattle.run_model.specs.declared.event.Event.{Event}
 use Rattle.run_model.specs.Lists.{IsPrefixOf}
 use Rattle.run_model.specs.Program.{ends}
 use Rattle.run_model.specs.Allowed.{IsStuck, can_go}
-use Rattle.run_model.specs.Pairs.{IsMatched}
-use Rattle.run_model.specs.Run.{IsRun}
+use Rattle.run_model.specs.Pairs.{IsAllMatched}
+use Rattle.run_model.specs.Run.{IsPromptRun}
 use Rattle.run_model.specs.Views.{Next, replies_in, view_of}
 use Rattle.run_model.specs.Chosen.{IsChosen, chosen_event, order_of}
 use Rattle.run_model.specs.Serial.{IsSerial}
@@ -37,7 +37,7 @@ TurnsFixSerial next n =
 -- in a serial run each rank has ended
 abbrev pub SerialEnds : Next → ℕ → Type 0
 SerialEnds next n =
-    (turns : List ℕ) (events : List Event) → IsSerial next n turns events → IsRun next n events
+    (turns : List ℕ) (events : List Event) → IsSerial next n turns events → IsPromptRun next n events
     → (rank : ℕ) → rank < n → list_any ends (view_of events rank) ≡ true
 
 -- a run of the machine without a Stuck reply begins the serial run of its order as turns
@@ -52,5 +52,5 @@ StaysMatched next n =
     (before : List Event) (rank : ℕ) (call : Call) → IsChosen next n before → rank < n
     → next n rank (replies_in (view_of before rank)) ≡ Some call
     → (can_go n before rank (view_of before rank) call ≡ true) ⊎ IsStuck next n before
-    → IsMatched (before ++ chosen_event n before rank call ∷ [])
+    → IsAllMatched (before ++ chosen_event n before rank call ∷ [])
     → IsChosen next n (before ++ chosen_event n before rank call ∷ [])

@@ -1,4 +1,4 @@
--- Which sends and receives are paired, and the five conditions on pairs.
+-- Which sends and receives are paired, and the conditions on pairs.
 -- (MPI 3.1, Point-to-Point Communication, "Semantics of Point-to-Point Communication": order and progress.)
 use Rattle.std.specs.Prelude.{◌≡◌, ◌<◌, ◌⊎◌, ℕ, List, [], ◌∷◌, ◌++◌, Option, Some, None, Bool, true, false, ◌&&◌, ◌==◌, if◌then◌else◌, is_some, length, slice_get, take}
 use Rattle.mpi_call.specs.declared.call.Call.{Call}
@@ -35,11 +35,15 @@ pair_with None later = []
 pair_with (Some earlier) later = (earlier, later) ∷ []
 
 -- the pair that an event makes with the start at its mate's position, the earlier one first
-abbrev pub pair_of : List Event → Event → List (Name × Name)
-pair_of before event = elim event.mate [
+abbrev pub mated : List Event → Event → List (Name × Name)
+mated before event = elim event.mate [
   | None ↦ []
   | Some at ↦ pair_with (name_at before at) (event.rank, length (starts_of (view_of before event.rank)))
 ]
+
+-- the pairs that an event makes: with its mate, and then those that meet after it and before the next event
+abbrev pub pair_of : List Event → Event → List (Name × Name)
+pair_of before event = mated before event ++ event.met
 
 -- the pairs that these events make, one after the other, after those before
 abbrev pub pairs_from : List Event → List Event → List (Name × Name)
@@ -69,19 +73,39 @@ pub record PostAccepts (N : Name → Option Call) (post send : Name) : Type 0 wh
   pub send_is : N send ≡ Some send_call
   pub accepted : post_accepts post.0 post_call send.0 send_call ≡ true
 
--- the five conditions. Earlier starts of one rank are those with lower numbers.
+-- the four conditions. Earlier starts of one rank are those with lower numbers.
 -- pairs_accept: a pair is a Send and a Post that accepts it
 -- one_partner: a start is in one pair at most: its partner has no other partner
--- no_overtaking: the paired Send's rank has no earlier unpaired Send that the Post accepts
--- earliest_receive: the paired Post's rank has no earlier unpaired Post that accepts the Send
--- nothing_waits: no unpaired Post accepts an unpaired Send
+-- no_overtaking: the paired Send's rank has no earlier unpaired Send that the Post accepts ("this operation cannot receive the second
+-- message if the first one is still pending")
+-- earliest_receive: the paired Post's rank has no earlier unpaired Post that accepts the Send ("the second receive operation cannot be
+-- satisfied by this message, if the first one is still pending")
 pub record AreMatched (N : Name → Option Call) (pairs : List (Name × Name)) : Type 0 where
   pub pairs_accept : (a b : Name) → partner_of pairs a ≡ Some b → PostAccepts N a b ⊎ PostAccepts N b a
   pub one_partner : (a b : Name) → partner_of pairs a ≡ Some b → partner_of pairs b ≡ Some a
   pub no_overtaking : (post send : Name) → partner_of pairs post ≡ Some send → (start : ℕ) → start < send.1 → PostAccepts N post (send.0, start) → is_some (partner_of pairs (send.0, start)) ≡ true
   pub earliest_receive : (post send : Name) → partner_of pairs post ≡ Some send → (start : ℕ) → start < post.1 → PostAccepts N (post.0, start) send → is_some (partner_of pairs (post.0, start)) ≡ true
-  pub nothing_waits : (post send : Name) → PostAccepts N post send → partner_of pairs post ≡ None → partner_of pairs send ≡ None → ⊥
 
--- the pairs of a history meet the five conditions
+-- the pairs of a history meet the four conditions
 abbrev pub IsMatched : List Event → Type 0
 IsMatched events = AreMatched (named events) (pairs_of events)
+
+-- no unpaired Post accepts an unpaired Send (progress: of a send and a receive that match "at least one of these two operations will
+-- complete")
+abbrev pub NothingWaits : (Name → Option Call) → List (Name × Name) → Type 0
+NothingWaits N pairs = (post send : Name) → PostAccepts N post send → partner_of pairs post ≡ None → partner_of pairs send ≡ None → ⊥
+
+-- pairs that meet one after the other: each of two unpaired starts, and the conditions hold before, between and after them
+abbrev pub MeetInTurn : (Name → Option Call) → List (Name × Name) → List (Name × Name) → Type 0
+MeetInTurn N pairs [] = AreMatched N pairs
+MeetInTurn N pairs (pair ∷ more) =
+    AreMatched N pairs × (partner_of pairs pair.0 ≡ None) × (partner_of pairs pair.1 ≡ None) × MeetInTurn N (pairs ++ pair ∷ []) more
+
+-- the conditions, and nothing is left waiting
+pub record AreAllMatched (N : Name → Option Call) (pairs : List (Name × Name)) : Type 0 where
+  pub matched : AreMatched N pairs
+  pub nothing_waits : NothingWaits N pairs
+
+-- so are the pairs of a history
+abbrev pub IsAllMatched : List Event → Type 0
+IsAllMatched events = AreAllMatched (named events) (pairs_of events)

@@ -14,8 +14,8 @@ use Rattle.run_model.specs.declared.event.Event.{Event}
 use Rattle.run_model.specs.Lists.{Along}
 use Rattle.run_model.specs.Views.{View, Next, view_of, replies_in, start_at, is_start}
 use Rattle.run_model.specs.Communicators.{instance_of}
-use Rattle.run_model.specs.Pairs.{Name, IsMatched, name_at, pairs_of, partner_of}
-use Rattle.run_model.specs.Allowed.{IsAllowed}
+use Rattle.run_model.specs.Pairs.{Name, MeetInTurn, IsAllMatched, mated, name_at, named, pairs_of, partner_of}
+use Rattle.run_model.specs.Allowed.{IsAllowed, IsPrompt}
 
 -- the communicators that a view made: each number, with the number of the Enter that made it
 abbrev pub numbers_made : ℕ → Got → List (ℕ × ℕ)
@@ -78,14 +78,14 @@ HasMate before event = elim event.mate [
   | Some at ↦ (name : Name) × (name_at before at ≡ Some name) × (partner_of (pairs_of before) name ≡ None) × IsTrue (is_start (event.call, event.reply))
 ]
 
--- an event after others: the call is the program's next (the run is faithful), the reply is allowed,
--- and after it the pairs meet their five conditions and the new communicators are numbered
+-- an event after others: the call is the program's next (the run is faithful), the reply is allowed, its pairs meet one after the
+-- other, and after it the new communicators are numbered
 pub record IsEvent (next : Next) (n : ℕ) (before : List Event) (event : Event) : Type 0 where
   pub rank : event.rank < n
   pub call : next n event.rank (replies_in (view_of before event.rank)) ≡ Some event.call
   pub reply : IsAllowed next n before event.rank event.call event.reply
   pub mate : HasMate before event
-  pub matched : IsMatched (before ++ event ∷ [])
+  pub meets : MeetInTurn (named (before ++ event ∷ [])) (pairs_of before ++ mated before event) event.met
   pub numbered : AreNumbered (view_of (before ++ event ∷ []))
 
 -- a run, finished or not, of a program on n ranks
@@ -93,3 +93,19 @@ pub record IsRun (next : Next) (n : ℕ) (events : List Event) : Type 0 where
   pub some : 0 < n
   pub few : n ≤ MOST_RANKS
   pub along : Along (IsEvent next n) [] events
+
+-- an event in which nothing is late: the reply is the one at once, a start meets at once what accepts it, and nothing else meets
+pub record IsPromptEvent (next : Next) (n : ℕ) (before : List Event) (event : Event) : Type 0 where
+  pub rank : event.rank < n
+  pub call : next n event.rank (replies_in (view_of before event.rank)) ≡ Some event.call
+  pub reply : IsPrompt next n before event.rank event.call event.reply
+  pub mate : HasMate before event
+  pub alone : event.met ≡ []
+  pub matched : IsAllMatched (before ++ event ∷ [])
+  pub numbered : AreNumbered (view_of (before ++ event ∷ []))
+
+-- a run in which nothing is late
+pub record IsPromptRun (next : Next) (n : ℕ) (events : List Event) : Type 0 where
+  pub some : 0 < n
+  pub few : n ≤ MOST_RANKS
+  pub along : Along (IsPromptEvent next n) [] events

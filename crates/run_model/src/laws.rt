@@ -1,5 +1,7 @@
-//! The laws of a recording machine's runs. Their bodies are empty; a caller's clause follows from theirs.
+//! The laws of a recording machine's runs, and what a probe binds in every run. Their bodies are empty; a caller's clause follows from
+//! theirs.
 ghost use Rattle.run_model.specs.MachineLaws.{StaysMatched, OrderBeginsSerial, OrderFixesRun, SerialEnds, TurnsFixSerial};
+ghost use Rattle.run_model.specs.ProbeLaws.{ProbeStays, ReceiveGetsProbed};
 
 use crate::program::Program;
 
@@ -22,4 +24,11 @@ pub fn order_begins_serial<P: Program>(program: &P, n: u8)
 /// The machine's event for a rank's next call goes on with its run.
 pub fn goes_on<P: Program>(program: &P, n: u8)
     ensures { StaysMatched (P.next program.now) n }
+{}
+
+/// In every run a message that a probe found is there until the probe's rank posts a receive for it, and a receive with the source
+/// and the tag that the probe returned gets it.
+pub fn what_a_probe_binds<P: Program>(program: &P, n: u8)
+    ensures stays { ProbeStays (P.next program.now) n }
+    ensures gets { ReceiveGetsProbed (P.next program.now) n }
 {}

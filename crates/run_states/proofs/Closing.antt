@@ -5,12 +5,12 @@ use Rattle.mpi_call.specs.declared.call.Halt.{Halt}
 use Rattle.run_model.specs.declared.event.Event.{Event}
 use Rattle.run_model.specs.Due.{halt_of_reply, halted, or_else}
 use Rattle.run_model.specs.Lists.{Along}
-use Rattle.run_model.specs.Pairs.{IsMatched}
-use Rattle.run_model.specs.Run.{IsEvent, IsRun}
+use Rattle.run_model.specs.Pairs.{IsAllMatched}
+use Rattle.run_model.specs.Run.{IsPromptEvent, IsPromptRun}
 use Rattle.run_model.specs.Views.{Next}
 use Rattle.run_model.proofs.Along.{Along-back}
 use Rattle.run_model.proofs.Origins.{AllBelow, AllBelow-more}
-use Rattle.run_model.proofs.RunLaws.{IsRun-front}
+use Rattle.run_model.proofs.Prompt.{IsPromptRun-front}
 use Rattle.picked_runs.specs.declared.turn.Pick.{Pick}
 use Rattle.picked_runs.specs.Made.{pick_of}
 use Rattle.picked_runs.specs.Numbering.{AreNumberedInOrder, IsNumberedInOrder}
@@ -44,7 +44,7 @@ free_back (Some halt) b h = absurd (cc)
 -- 2. along the run
 
 step_met : (next : Next) (n : ℕ) (IsWanted : List Event → Event → Type 0) (root : List Event) (visited : List (List Event)) → TellsAlike n IsWanted → AreClosed next n root IsWanted visited
-    → (before : List Event) (event : Event) → IsMatched before → AllBelow n before → IsEvent next n before event → IsNumberedInOrder n before event
+    → (before : List Event) (event : Event) → IsAllMatched before → AllBelow n before → IsPromptEvent next n before event → IsNumberedInOrder n before event
     → IsWanted before event → halted before ≡ None → halt_of_reply event.reply ≡ None → IsVisited n visited before → IsVisited n visited (before ++ event ∷ [])
 step_met next n IsWanted root visited tells closed before event matched all step ordered wanted none free met =
     let one : List Event = met.0 in
@@ -75,7 +75,7 @@ step_met next n IsWanted root visited tells closed before event matched all step
     subst G (sym picked.event_is) (next_met.0, next_met.1, same_on n next_met.0 (one ++ second ∷ []) (before ++ first ∷ []) next_met.2 grown)
 
 all_met : (next : Next) (n : ℕ) (IsWanted : List Event → Event → Type 0) (root : List Event) (visited : List (List Event)) → TellsAlike n IsWanted → AreClosed next n root IsWanted visited
-    → (before events : List Event) → IsMatched before → AllBelow n before → Along (IsEvent next n) before events → Along (IsNumberedInOrder n) before events
+    → (before events : List Event) → IsAllMatched before → AllBelow n before → Along (IsPromptEvent next n) before events → Along (IsNumberedInOrder n) before events
     → Along IsWanted before events → halted (before ++ events) ≡ None → IsVisited n visited before → IsVisited n visited (before ++ events)
 all_met next n IsWanted root visited tells closed before [] matched all run ordered wanted none met = rw append-nil met
 all_met next n IsWanted root visited tells closed before (event ∷ events) matched all run ordered wanted none met =
@@ -92,11 +92,11 @@ all_met next n IsWanted root visited tells closed before (event ∷ events) matc
 -- 3. from the first history on
 
 pub met_from : (next : Next) (n : ℕ) (IsWanted : List Event → Event → Type 0) → TellsAlike n IsWanted → (root more : List Event) (visited : List (List Event))
-    → AreClosed next n root IsWanted visited → IsRun next n (root ++ more) → AreNumberedInOrder n (root ++ more) → Along IsWanted root more
+    → AreClosed next n root IsWanted visited → IsPromptRun next n (root ++ more) → AreNumberedInOrder n (root ++ more) → Along IsWanted root more
     → halted (root ++ more) ≡ None → IsVisited n visited (root ++ more)
 met_from next n IsWanted tells root more visited closed is ordered wanted none =
-    let front : IsRun next n root = IsRun-front next n root more is in
-    all_met next n IsWanted root visited tells closed root more (run_matched next n root front) (all_below next n root front) (Along-back (IsEvent next n) [] root more is.along)
+    let front : IsPromptRun next n root = IsPromptRun-front next n root more is in
+    all_met next n IsWanted root visited tells closed root more (run_matched next n root front) (all_below next n root front) (Along-back (IsPromptEvent next n) [] root more is.along)
     (Along-back (IsNumberedInOrder n) [] root more ordered) wanted none closed.first
 
 pub every_run_is_met : (next : Next) (n : ℕ) → EveryRunIsMet next n

@@ -168,6 +168,7 @@ events_same n one other same a me call pick offered settled =
             reply = first ∙ sym second;
             mate = ap (λ r. mate_name one (picked_mate one me call r pick)) first ∙ (halt_mate one me call pick halt
                 ∙ sym (ap (λ r. mate_name other (picked_mate other me call r pick)) second ∙ halt_mate other me call pick halt));
+            met = refl;
           }
       | inr none ↦
           let g : Goes n one other me call pick = record { same = same; alike = a; none = none; offered = offered; settled = settled } in
@@ -177,5 +178,6 @@ events_same n one other same a me call pick offered settled =
             call = refl;
             reply = reply;
             mate = ap (λ r. mate_name one (picked_mate one me call r pick)) reply ∙ mates_same n one other me call (picked_reply n other me call pick) pick g;
+            met = refl;
           }
     ]

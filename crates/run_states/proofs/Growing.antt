@@ -7,7 +7,7 @@ use Rattle.mpi_call.specs.Calls.{comm_of}
 use Rattle.run_model.specs.declared.event.Event.{Event}
 use Rattle.run_model.specs.Communicators.{count_on, members_for_rank}
 use Rattle.run_model.specs.Numbers.{Origin, communicators_of, entered_by_all, made_at, origins_from}
-use Rattle.run_model.specs.Pairs.{Name, pair_of, pair_with, pairs_of, partner_of, same_name}
+use Rattle.run_model.specs.Pairs.{Name, mated, pair_of, pair_with, pairs_of, partner_of, same_name}
 use Rattle.run_model.specs.Views.{View, is_start, starts_of, view_of}
 use Rattle.run_model.proofs.Numbered.{communicators_of-push}
 use Rattle.run_model.proofs.Positions.{new_name}
@@ -29,7 +29,7 @@ views_grow n one other a b same event rank =
 
 -- 2. pairs
 
-pair_is : (before : List Event) (event : Event) → pair_of before event ≡ pair_with (mate_name before event.mate) (new_name before event)
+pair_is : (before : List Event) (event : Event) → mated before event ≡ pair_with (mate_name before event.mate) (new_name before event)
 pair_is before event =
     elim (option_cases event.mate) [
       | inl some ↦ rw some.1 refl
@@ -37,11 +37,11 @@ pair_is before event =
     ]
 
 -- the first that is there
-abbrev first_of : Option Name → Option Name → Option Name
+abbrev pub first_of : Option Name → Option Name → Option Name
 first_of (Some name) other = Some name
 first_of None other = other
 
-partner_more : (P Q : List (Name × Name)) (name : Name) → partner_of (P ++ Q) name ≡ first_of (partner_of P name) (partner_of Q name)
+pub partner_more : (P Q : List (Name × Name)) (name : Name) → partner_of (P ++ Q) name ≡ first_of (partner_of P name) (partner_of Q name)
 partner_more [] Q name = refl
 partner_more (pair ∷ P) Q name =
     elim (test_cases (same_name pair.0 name)) [
@@ -61,8 +61,10 @@ pairs_grow : (n : ℕ) (one other : List Event) (a b : Event) → SameFuture n o
     → partner_of (pairs_of (one ++ a ∷ [])) name ≡ partner_of (pairs_of (other ++ b ∷ [])) name
 pairs_grow n one other a b same event name =
     let pair : pair_of one a ≡ pair_of other b =
-    pair_is one a ∙ (ap (λ m. pair_with m (new_name one a)) event.mate
-    ∙ (ap (pair_with (mate_name other b.mate)) (names_same n one other a b same event) ∙ sym (pair_is other b))) in
+    ap (λ l. l ++ a.met)
+    (pair_is one a ∙ (ap (λ m. pair_with m (new_name one a)) event.mate
+    ∙ (ap (pair_with (mate_name other b.mate)) (names_same n one other a b same event) ∙ sym (pair_is other b))))
+    ∙ ap (λ l. mated other b ++ l) event.met in
     ap (λ l. partner_of l name) (pairs_of-push one a)
     ∙ (partner_more (pairs_of one) (pair_of one a) name
     ∙ (ap (λ o. first_of o (partner_of (pair_of one a) name)) (same.pairs name)
@@ -72,7 +74,7 @@ pairs_grow n one other a b same event name =
 -- 3. communicators
 
 -- what an event makes, by the views after it, its rank's own view before it, its call and its reply
-abbrev made_by : ℕ → (ℕ → View) → View → Call → Reply → List Origin
+abbrev pub made_by : ℕ → (ℕ → View) → View → Call → Reply → List Origin
 made_by n after own call reply =
     if is_start (call, reply)
     then origins_from

@@ -9,7 +9,7 @@ use Rattle.mpi_call.specs.declared.reply.Reply.TheVariants.{Stopped}
 use Rattle.run_model.specs.declared.event.Event.{Event}
 use Rattle.run_model.specs.Allowed.{IsAllowedBy, IsStuck}
 use Rattle.run_model.specs.Due.{halt_at, halt_of_reply, halted, is_full, or_else}
-use Rattle.run_model.specs.Run.{IsEvent, IsRun}
+use Rattle.run_model.specs.Run.{IsPromptEvent, IsPromptRun}
 use Rattle.run_model.specs.Views.{Next, View, moment_at, view_of}
 use Rattle.run_model.proofs.Along.{Along-keeps}
 use Rattle.run_model.proofs.Views.{option_cases, test_cases, view_of-mine, view_of-other}
@@ -72,7 +72,7 @@ halt_of-more ((c, r) ∷ view) call reply = rw (halt_of-more view call reply) (o
 record HasOneHalt (events : List Event) : Type 0 where
   each : (rank : ℕ) (halt : Halt) → halt_of (view_of events rank) ≡ Some halt → halted events ≡ Some halt
 
-one_halt_more : (next : Next) (n : ℕ) (before : List Event) (event : Event) → HasOneHalt before → IsEvent next n before event
+one_halt_more : (next : Next) (n : ℕ) (before : List Event) (event : Event) → HasOneHalt before → IsPromptEvent next n before event
     → HasOneHalt (before ++ event ∷ [])
 one_halt_more next n before event one step =
     record {
@@ -104,11 +104,11 @@ one_halt_more next n before event one step =
       ];
     }
 
-one_halt : (next : Next) (n : ℕ) (run : List Event) → IsRun next n run → HasOneHalt run
-one_halt next n run is = Along-keeps (IsEvent next n) HasOneHalt (one_halt_more next n) [] run (record { each = λ rank halt h. absurd (cc) }) is.along
+one_halt : (next : Next) (n : ℕ) (run : List Event) → IsPromptRun next n run → HasOneHalt run
+one_halt next n run is = Along-keeps (IsPromptEvent next n) HasOneHalt (one_halt_more next n) [] run (record { each = λ rank halt h. absurd (cc) }) is.along
 
 -- so runs of the same views have the same halt
-pub halts_same : (next : Next) (n : ℕ) (one other : List Event) → IsRun next n one → IsRun next n other
+pub halts_same : (next : Next) (n : ℕ) (one other : List Event) → IsPromptRun next n one → IsPromptRun next n other
     → ((rank : ℕ) → view_of one rank ≡ view_of other rank) → halted one ≡ halted other
 halts_same next n one other first second same =
     elim (option_cases (halted one)) [

@@ -5,10 +5,11 @@ use Rattle.std.proofs.lemmas.Bool.{cases_lt, cases_order}
 use Rattle.run_model.specs.declared.event.Event.{Event}
 use Rattle.run_model.specs.Lists.{world}
 use Rattle.run_model.specs.Numbers.{Origin, communicators_of}
-use Rattle.run_model.specs.Pairs.{IsMatched, Name, named, pairs_of, partner_of}
+use Rattle.run_model.specs.Pairs.{IsAllMatched, Name, named, pairs_of, partner_of}
 use Rattle.run_model.specs.Views.{Next, View, starts_of, view_of}
 use Rattle.run_model.proofs.Origins.{AllBelow}
 use Rattle.run_model.proofs.StartLemmas.{slice_get-below}
+use Rattle.run_model.proofs.Prompt.{prompt_is_run}
 use Rattle.run_model.proofs.Views.{option_cases}
 use Rattle.srr_entry.specs.declared.entry.Entry.{Entry}
 use Rattle.srr_entry.specs.declared.log.Log.{Log}
@@ -33,10 +34,10 @@ map_at f g (suc count) from k e low high =
     ]
 
 -- what is no start has no partner
-no_partner : (events : List Event) (name : Name) → IsMatched events → named events name ≡ None → partner_of (pairs_of events) name ≡ None
+no_partner : (events : List Event) (name : Name) → IsAllMatched events → named events name ≡ None → partner_of (pairs_of events) name ≡ None
 no_partner events name matched none =
     elim (option_cases (partner_of (pairs_of events) name)) [
-      | inl some ↦ elim (matched.pairs_accept name some.0 some.1) [
+      | inl some ↦ elim (matched.matched.pairs_accept name some.0 some.1) [
         | inl takes ↦ (let no : None ≡ Some takes.post_call = sym none ∙ takes.post_is in absurd (cc))
         | inr takes ↦ (let no : None ≡ Some takes.send_call = sym none ∙ takes.send_is in absurd (cc))
       ]
@@ -52,7 +53,7 @@ none_past events rank k above =
       | inr none ↦ none
     ]
 
-partners_same : (n : ℕ) (one other : List Event) → AllBelow n one → IsMatched one → IsMatched other → ((rank : ℕ) → view_of one rank ≡ view_of other rank)
+partners_same : (n : ℕ) (one other : List Event) → AllBelow n one → IsAllMatched one → IsAllMatched other → ((rank : ℕ) → view_of one rank ≡ view_of other rank)
     → map (partners_in one) (world n 0) ≡ map (partners_in other) (world n 0) → (rank k : ℕ)
     → partner_of (pairs_of one) (rank, k) ≡ partner_of (pairs_of other) (rank, k)
 partners_same n one other low first second views e rank k =
@@ -79,8 +80,8 @@ keys_fix_futures next n one other first second key =
     let entries : (log_of [] n one (world n 0)).lists ≡ (log_of [] n other (world n 0)).lists = ap (λ (k : Key). k.entries) key in
     let log : Log = log_of [] n one (world n 0) in
     let made : List (List Entry) → Log = λ lists. record { ranks = n; group = world n 0; program = []; lists = lists } in
-    let mine : IsRunWith next log one = record { is_run = first; same_log = refl } in
-    let theirs : IsRunWith next log other = record { is_run = second; same_log = ap made entries } in
+    let mine : IsRunWith next log one = record { is_run = prompt_is_run next n one first; same_log = refl } in
+    let theirs : IsRunWith next log other = record { is_run = prompt_is_run next n other second; same_log = ap made entries } in
     let low : AllBelow n one = all_below next n one first in
     let views : (rank : ℕ) → view_of one rank ≡ view_of other rank = views_same next log one other mine theirs refl low (all_below next n other second) in
     record {

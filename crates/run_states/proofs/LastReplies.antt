@@ -12,11 +12,12 @@ use Rattle.run_model.specs.Allowed.{IsAllowedBy, IsStuck}
 use Rattle.run_model.specs.Due.{halt_at, halt_of_reply, halted, is_full, or_else}
 use Rattle.run_model.specs.Lists.{Along}
 use Rattle.run_model.specs.Program.{ends}
-use Rattle.run_model.specs.Run.{IsEvent, IsRun}
+use Rattle.run_model.specs.Run.{IsPromptEvent, IsPromptRun}
 use Rattle.run_model.specs.Serial.{call_after}
 use Rattle.run_model.specs.Views.{Next, View, moment_at, replies_in, view_of}
 use Rattle.run_model.proofs.Along.{Along-snoc}
-use Rattle.run_model.proofs.RunLaws.{Lawful, kept_run}
+use Rattle.run_model.proofs.Prompt.{kept_prompt}
+use Rattle.run_model.proofs.RunLaws.{Lawful}
 use Rattle.run_model.proofs.Views.{option_cases, test_cases, view_of-mine, view_of-other}
 use Rattle.run_states.specs.Outcomes.{last_replies, replies_and}
 use Rattle.run_states.proofs.HaltsSeen.{halted-append}
@@ -62,14 +63,14 @@ HasLast next n base now halt rank =
 abbrev HaveLast : Next → ℕ → List Event → List Event → Halt → Type 0
 HaveLast next n base now halt = (rank : ℕ) → rank < n → HasLast next n base now halt rank
 
-stopped_again : (next : Next) (n : ℕ) (now : List Event) (event : Event) (halt : Halt) → halted now ≡ Some halt → IsEvent next n now event → event.reply ≡ Stopped halt
+stopped_again : (next : Next) (n : ℕ) (now : List Event) (event : Event) (halt : Halt) → halted now ≡ Some halt → IsPromptEvent next n now event → event.reply ≡ Stopped halt
 stopped_again next n now event halt h step =
     let F : Option Halt → Type 0 = λ o. IsAllowedBy
     (or_else o (if is_full now then Some Limit else halt_at n now event.rank (view_of now event.rank) event.call))
     (IsStuck next n now) (moment_at n now event.rank) event.call event.reply in
     subst F h step.reply
 
-last_own : (next : Next) (n : ℕ) (base now : List Event) (event : Event) (halt : Halt) → Lawful next → IsRun next n now → IsEvent next n now event
+last_own : (next : Next) (n : ℕ) (base now : List Event) (event : Event) (halt : Halt) → Lawful next → IsPromptRun next n now → IsPromptEvent next n now event
     → event.reply ≡ Stopped halt → HasLast next n base now halt event.rank → HasLast next n base (now ++ event ∷ []) halt event.rank
 last_own next n base now event halt lawful run step stopped last =
     let rank : ℕ = event.rank in
@@ -79,14 +80,14 @@ last_own next n base now event halt lawful run step stopped last =
           let seen : Reply → View → View = λ r v. v ++ (event.call, r) ∷ [] in
           inr (event.call, asked, view_of-mine now event rank refl ∙ (ap (λ r. seen r (view_of now rank)) stopped ∙ ap (seen (Stopped halt)) same))
       | inr was ↦
-          let kept = kept_run next n now lawful run in
+          let kept = kept_prompt next n now lawful run in
           let ended : list_any ends (view_of now rank) ≡ true = ap (list_any ends) was.2 ∙ ends_last (view_of base rank) was.0 halt in
           let none : next n rank (replies_in (view_of now rank)) ≡ None = (lawful.ends n rank (view_of now rank) (run.some, run.few, step.rank) (kept.came rank step.rank)).1 ended in
           let no : None ≡ Some event.call = sym none ∙ step.call in
           absurd (cc)
     ]
 
-last_more : (next : Next) (n : ℕ) (base now : List Event) (event : Event) (halt : Halt) → Lawful next → IsRun next n now → IsEvent next n now event
+last_more : (next : Next) (n : ℕ) (base now : List Event) (event : Event) (halt : Halt) → Lawful next → IsPromptRun next n now → IsPromptEvent next n now event
     → event.reply ≡ Stopped halt → HaveLast next n base now halt → HaveLast next n base (now ++ event ∷ []) halt
 last_more next n base now event halt lawful run step stopped all rank below =
     elim (test_cases (event.rank == rank)) [
@@ -101,12 +102,12 @@ last_more next n base now event halt lawful run step stopped all rank below =
           ]
     ]
 
-last_along : (next : Next) (n : ℕ) (base now events : List Event) (halt : Halt) → Lawful next → IsRun next n now → halted now ≡ Some halt
-    → Along (IsEvent next n) now events → HaveLast next n base now halt → HaveLast next n base (now ++ events) halt
+last_along : (next : Next) (n : ℕ) (base now events : List Event) (halt : Halt) → Lawful next → IsPromptRun next n now → halted now ≡ Some halt
+    → Along (IsPromptEvent next n) now events → HaveLast next n base now halt → HaveLast next n base (now ++ events) halt
 last_along next n base now [] halt lawful run h steps all = rw append-nil all
 last_along next n base now (event ∷ events) halt lawful run h steps all =
     let longer : List Event = now ++ event ∷ [] in
-    let more : IsRun next n longer = record { some = run.some; few = run.few; along = Along-snoc (IsEvent next n) [] now event run.along steps.0 } in
+    let more : IsPromptRun next n longer = record { some = run.some; few = run.few; along = Along-snoc (IsPromptEvent next n) [] now event run.along steps.0 } in
     let stopped = stopped_again next n now event halt h steps.0 in
     let still : halted longer ≡ Some halt = halted-append now (event ∷ []) ∙ ap (λ o. or_else o (halted (event ∷ []))) h in
     let rest = last_along next n base longer events halt lawful more still steps.1 (last_more next n base now event halt lawful run steps.0 stopped all) in
@@ -119,13 +120,13 @@ replies_more : (view : View) (call : Call) (reply : Reply) → replies_in (view 
 replies_more [] call reply = refl
 replies_more (seen ∷ view) call reply = ap (λ l. seen.1 ∷ l) (replies_more view call reply)
 
-pub last_is : (next : Next) (n : ℕ) (before after : List Event) (event : Event) (halt : Halt) → Lawful next → IsRun next n before → halted before ≡ None
-    → Along (IsEvent next n) before (event ∷ after) → halt_of_reply event.reply ≡ Some halt
+pub last_is : (next : Next) (n : ℕ) (before after : List Event) (event : Event) (halt : Halt) → Lawful next → IsPromptRun next n before → halted before ≡ None
+    → Along (IsPromptEvent next n) before (event ∷ after) → halt_of_reply event.reply ≡ Some halt
     → ((rank : ℕ) → rank < n → call_after next n (before ++ event ∷ after) rank ≡ None)
     → (rank : ℕ) → rank < n → replies_in (view_of (before ++ event ∷ after) rank) ≡ last_replies next n before halt rank
 last_is next n before after event halt lawful run none steps here ended rank below =
     let longer : List Event = before ++ event ∷ [] in
-    let more : IsRun next n longer = record { some = run.some; few = run.few; along = Along-snoc (IsEvent next n) [] before event run.along steps.0 } in
+    let more : IsPromptRun next n longer = record { some = run.some; few = run.few; along = Along-snoc (IsPromptEvent next n) [] before event run.along steps.0 } in
     let stopped : event.reply ≡ Stopped halt = stopped_by event.reply halt here in
     let now : halted longer ≡ Some halt = halted-append before (event ∷ []) ∙ (ap (λ o. or_else o (halted (event ∷ []))) none ∙ ap (λ o. or_else o None) here) in
     let first : HaveLast next n before longer halt = last_more next n before before event halt lawful run steps.0 stopped (λ r low. inl refl) in

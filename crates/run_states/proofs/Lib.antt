@@ -5,6 +5,7 @@ mod Naming
 mod Offers
 mod Events
 mod Growing
+pub mod LateMoves
 mod AnswerLaws
 mod RunFacts
 mod RunPicks

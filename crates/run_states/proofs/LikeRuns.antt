@@ -4,11 +4,12 @@ use Rattle.mpi_call.specs.declared.call.Call.{Call}
 use Rattle.run_model.specs.declared.event.Event.{Event}
 use Rattle.run_model.specs.Chosen.{order_of}
 use Rattle.run_model.specs.Lists.{Along}
-use Rattle.run_model.specs.Pairs.{AreMatched, IsMatched, Name, PostAccepts, named, pairs_of, partner_of}
-use Rattle.run_model.specs.Run.{IsEvent, IsRun}
+use Rattle.run_model.specs.Pairs.{AreAllMatched, IsAllMatched, Name, PostAccepts, named, pairs_of, partner_of}
+use Rattle.run_model.specs.Run.{IsPromptEvent, IsPromptRun}
 use Rattle.run_model.specs.Views.{Next, View, start_at}
 use Rattle.run_model.proofs.Along.{Along-back, Along-snoc}
-use Rattle.run_model.proofs.RunLaws.{IsRun-front, Lawful}
+use Rattle.run_model.proofs.Prompt.{IsPromptRun-front}
+use Rattle.run_model.proofs.RunLaws.{Lawful}
 use Rattle.picked_runs.specs.declared.turn.Pick.{Pick}
 use Rattle.picked_runs.specs.Made.{pick_of, picks_of}
 use Rattle.picked_runs.specs.Numbering.{AreNumberedInOrder, IsNumberedInOrder}
@@ -46,23 +47,25 @@ takes_same N M names post send takes =
     }
 
 conditions_same : (N M : Name → Option Call) (P Q : List (Name × Name)) → ((name : Name) → N name ≡ M name)
-    → ((name : Name) → partner_of P name ≡ partner_of Q name) → AreMatched N P → AreMatched M Q
+    → ((name : Name) → partner_of P name ≡ partner_of Q name) → AreAllMatched N P → AreAllMatched M Q
 conditions_same N M P Q names pairs matched =
     let back : (name : Name) → M name ≡ N name = λ name. sym (names name) in
     record {
-      pairs_accept = λ a b h. elim (matched.pairs_accept a b (pairs a ∙ h)) [
-        | inl takes ↦ inl (takes_same N M names a b takes)
-        | inr takes ↦ inr (takes_same N M names b a takes)
-      ];
-      one_partner = λ a b h. sym (pairs b) ∙ matched.one_partner a b (pairs a ∙ h);
-      no_overtaking = λ post send h start less takes. ap is_some (sym (pairs (send.0, start)))
-          ∙ matched.no_overtaking post send (pairs post ∙ h) start less (takes_same M N back post (send.0, start) takes);
-      earliest_receive = λ post send h start less takes. ap is_some (sym (pairs (post.0, start)))
-          ∙ matched.earliest_receive post send (pairs post ∙ h) start less (takes_same M N back (post.0, start) send takes);
+      matched = record {
+        pairs_accept = λ a b h. elim (matched.matched.pairs_accept a b (pairs a ∙ h)) [
+          | inl takes ↦ inl (takes_same N M names a b takes)
+          | inr takes ↦ inr (takes_same N M names b a takes)
+        ];
+        one_partner = λ a b h. sym (pairs b) ∙ matched.matched.one_partner a b (pairs a ∙ h);
+        no_overtaking = λ post send h start less takes. ap is_some (sym (pairs (send.0, start)))
+            ∙ matched.matched.no_overtaking post send (pairs post ∙ h) start less (takes_same M N back post (send.0, start) takes);
+        earliest_receive = λ post send h start less takes. ap is_some (sym (pairs (post.0, start)))
+            ∙ matched.matched.earliest_receive post send (pairs post ∙ h) start less (takes_same M N back (post.0, start) send takes);
+      };
       nothing_waits = λ post send takes p q. matched.nothing_waits post send (takes_same M N back post send takes) (pairs post ∙ p) (pairs send ∙ q);
     }
 
-matched_same : (n : ℕ) (one other : List Event) → SameFuture n one other → IsMatched one → IsMatched other
+matched_same : (n : ℕ) (one other : List Event) → SameFuture n one other → IsAllMatched one → IsAllMatched other
 matched_same n one other same matched =
     conditions_same (named one) (named other) (pairs_of one) (pairs_of other) (λ name. ap (λ (v : View). start_at v name.1) (same.views name.0)) same.pairs matched
 
@@ -70,13 +73,13 @@ matched_same n one other same matched =
 
 record HasLikeEvent (next : Next) (n : ℕ) (one other : List Event) (event : Event) : Type 0 where
   like : Event
-  run : IsRun next n (other ++ like ∷ [])
+  run : IsPromptRun next n (other ++ like ∷ [])
   numbered : AreNumberedInOrder n (other ++ like ∷ [])
   same : SameEvent one other event like
   future : SameFuture n (one ++ event ∷ []) (other ++ like ∷ [])
 
-like_event : (next : Next) (n : ℕ) → Lawful next → (one other : List Event) (event : Event) → IsRun next n one → IsRun next n other → AreNumberedInOrder n other
-    → SameFuture n one other → IsEvent next n one event → IsNumberedInOrder n one event → HasLikeEvent next n one other event
+like_event : (next : Next) (n : ℕ) → Lawful next → (one other : List Event) (event : Event) → IsPromptRun next n one → IsPromptRun next n other → AreNumberedInOrder n other
+    → SameFuture n one other → IsPromptEvent next n one event → IsNumberedInOrder n one event → HasLikeEvent next n one other event
 like_event next n lawful one other event first second numbered same step ordered =
     let rank : ℕ = event.rank in
     let call : Call = event.call in
@@ -106,17 +109,17 @@ like_event next n lawful one other event first second numbered same step ordered
 -- 3. all of them
 
 record IsLike (next : Next) (n : ℕ) (one other more rest : List Event) : Type 0 where
-  run : IsRun next n (other ++ rest)
+  run : IsPromptRun next n (other ++ rest)
   numbered : AreNumberedInOrder n (other ++ rest)
   order : order_of rest ≡ order_of more
   future : SameFuture n (one ++ more) (other ++ rest)
   probes : Along IsProbeKept one more → Along IsProbeKept other rest
 
-like_run : (next : Next) (n : ℕ) → Lawful next → (one other more : List Event) → IsRun next n one → IsRun next n other → AreNumberedInOrder n other
-    → SameFuture n one other → Along (IsEvent next n) one more → Along (IsNumberedInOrder n) one more
+like_run : (next : Next) (n : ℕ) → Lawful next → (one other more : List Event) → IsPromptRun next n one → IsPromptRun next n other → AreNumberedInOrder n other
+    → SameFuture n one other → Along (IsPromptEvent next n) one more → Along (IsNumberedInOrder n) one more
     → (rest : List Event) × IsLike next n one other more rest
 like_run next n lawful one other [] first second numbered same steps ordered =
-    let R : List Event → Type 0 = λ l. IsRun next n l in
+    let R : List Event → Type 0 = λ l. IsPromptRun next n l in
     let N : List Event → Type 0 = λ l. AreNumberedInOrder n l in
     let F : List Event → Type 0 = λ l. SameFuture n l other in
     let G : List Event → Type 0 = λ l. SameFuture n (one ++ []) l in
@@ -132,12 +135,12 @@ like_run next n lawful one other [] first second numbered same steps ordered =
     )
 like_run next n lawful one other (event ∷ more) first second numbered same steps ordered =
     let e = like_event next n lawful one other event first second numbered same steps.0 ordered.0 in
-    let longer : IsRun next n (one ++ event ∷ []) = record { some = first.some; few = first.few; along = Along-snoc (IsEvent next n) [] one event first.along steps.0 } in
+    let longer : IsPromptRun next n (one ++ event ∷ []) = record { some = first.some; few = first.few; along = Along-snoc (IsPromptEvent next n) [] one event first.along steps.0 } in
     let tail = like_run next n lawful (one ++ event ∷ []) (other ++ e.like ∷ []) more longer e.run e.numbered e.future steps.1 ordered.1 in
     let rest : List Event = tail.0 in
     let t : IsLike next n (one ++ event ∷ []) (other ++ e.like ∷ []) more rest = tail.1 in
     let whole : (other ++ e.like ∷ []) ++ rest ≡ other ++ e.like ∷ rest = append_assoc other (e.like ∷ []) rest in
-    let R : List Event → Type 0 = λ l. IsRun next n l in
+    let R : List Event → Type 0 = λ l. IsPromptRun next n l in
     let N : List Event → Type 0 = λ l. AreNumberedInOrder n l in
     let F : List Event → Type 0 = λ l. SameFuture n l ((other ++ e.like ∷ []) ++ rest) in
     let G : List Event → Type 0 = λ l. SameFuture n (one ++ event ∷ more) l in (
@@ -153,7 +156,7 @@ like_run next n lawful one other (event ∷ more) first second numbered same ste
 
 pub futures_are_same : (next : Next) (output : Output) (n : ℕ) → Lawful next → FuturesAreSame next output n
 futures_are_same next output n lawful one other more is ordered second numbered same =
-    let found = like_run next n lawful one other more (IsRun-front next n one more is) second numbered same (Along-back (IsEvent next n) [] one more is.along)
+    let found = like_run next n lawful one other more (IsPromptRun-front next n one more is) second numbered same (Along-back (IsPromptEvent next n) [] one more is.along)
     (Along-back (IsNumberedInOrder n) [] one more ordered) in
     let rest : List Event = found.0 in
     let like : IsLike next n one other more rest = found.1 in

@@ -11,13 +11,14 @@ use Rattle.run_model.specs.declared.event.Event.{Event}
 use Rattle.run_model.specs.Due.{halt_of_reply, halted, or_else}
 use Rattle.run_model.specs.Endings.{ending_by, ending_of}
 use Rattle.run_model.specs.Lists.{Along, are_below}
-use Rattle.run_model.specs.Run.{IsEvent, IsRun}
+use Rattle.run_model.specs.Run.{IsPromptEvent, IsPromptRun}
 use Rattle.run_model.specs.Serial.{call_after}
 use Rattle.run_model.specs.Views.{Next, View, moment_at, replies_in, view_of}
 use Rattle.run_model.proofs.Along.{Along-back, Along-front}
 use Rattle.run_model.proofs.Halts.{names, was_stopped}
 use Rattle.run_model.proofs.MemberLists.{AreMembers-world}
-use Rattle.run_model.proofs.RunLaws.{IsRun-front, Kept, Lawful, kept_run}
+use Rattle.run_model.proofs.Prompt.{IsPromptRun-front, KeptPrompt, kept_all, kept_prompt}
+use Rattle.run_model.proofs.RunLaws.{Kept, Lawful}
 use Rattle.run_model.proofs.Views.{option_cases}
 use Rattle.picked_runs.specs.Made.{pick_of}
 use Rattle.picked_runs.specs.Numbering.{AreNumberedInOrder, IsNumberedInOrder}
@@ -88,16 +89,16 @@ outcome_with ending printed = record { ending = reported_ending ending; printed 
 
 -- where one came
 pub halt_outcome : (next : Next) (output : Output) (n : ℕ) → Lawful next → (before after : List Event) (event : Event) (halt : Halt)
-    → IsRun next n (before ++ event ∷ after) → ((rank : ℕ) → rank < n → call_after next n (before ++ event ∷ after) rank ≡ None)
+    → IsPromptRun next n (before ++ event ∷ after) → ((rank : ℕ) → rank < n → call_after next n (before ++ event ∷ after) rank ≡ None)
     → halted before ≡ None → halt_of_reply event.reply ≡ Some halt → outcome_of_run output n (before ++ event ∷ after) ≡ halted_outcome next output n before halt
 halt_outcome next output n lawful before after event halt is ended none here =
     let run : List Event = before ++ event ∷ after in
-    let front : IsRun next n before = IsRun-front next n before (event ∷ after) is in
-    let steps = Along-back (IsEvent next n) [] before (event ∷ after) is.along in
+    let front : IsPromptRun next n before = IsPromptRun-front next n before (event ∷ after) is in
+    let steps = Along-back (IsPromptEvent next n) [] before (event ∷ after) is.along in
     let all : halted run ≡ Some halt = halted-append before (event ∷ after)
     ∙ (ap (λ o. or_else o (halted (event ∷ after))) none ∙ ap (λ o. or_else o (halted after)) here) in
     let last : (rank : ℕ) → rank < n → replies_in (view_of run rank) ≡ last_replies next n before halt rank = last_is next n before after event halt lawful front none steps here ended in
-    let below = told_below next n run halt is.some (kept_run next n run lawful is) all in
+    let below = told_below next n run halt is.some (kept_all next n run (kept_prompt next n run lawful is)) all in
     ap (λ o. outcome_by output n (ending_by o) (λ rank. replies_in (view_of run rank))) all
     ∙ ap (outcome_with (Halted halt)) (printed_same output n (λ rank. replies_in (view_of run rank)) (last_replies next n before halt) (reported_ranks n (Halted halt)) last below)
 
@@ -125,7 +126,7 @@ abbrev MeetsBeginnings : ℕ → List (List Event) → List Event → List Event
 MeetsBeginnings n visited root more =
     (mid after : List Event) → more ≡ mid ++ after → halted (root ++ mid) ≡ None → IsVisited n visited (root ++ mid)
 
-halting_of : (next : Next) (n : ℕ) (before : List Event) (event : Event) (halt : Halt) → Kept next n before → IsEvent next n before event → IsNumberedInOrder n before event
+halting_of : (next : Next) (n : ℕ) (before : List Event) (event : Event) (halt : Halt) → KeptPrompt next n before → IsPromptEvent next n before event → IsNumberedInOrder n before event
     → halt_of_reply event.reply ≡ Some halt → IsHalting next (moment_at n before event.rank) event.call (pick_of n before event) halt
 halting_of next n before event halt kept step ordered here =
     let picked : IsPickedEvent n before event (pick_of n before event) = event_picked next n before event kept.matched kept.below step ordered in
@@ -139,7 +140,7 @@ halting_of next n before event halt kept step ordered here =
     }
 
 halted_met : (next : Next) (output : Output) (n : ℕ) (visited : List (List Event)) → Lawful next → (before after : List Event) (event : Event) (halt : Halt)
-    → IsRun next n (before ++ event ∷ after) → AreNumberedInOrder n (before ++ event ∷ after)
+    → IsPromptRun next n (before ++ event ∷ after) → AreNumberedInOrder n (before ++ event ∷ after)
     → ((rank : ℕ) → rank < n → call_after next n (before ++ event ∷ after) rank ≡ None)
     → halted before ≡ None → halt_of_reply event.reply ≡ Some halt → IsVisited n visited before
     → IsOutcomeMet next output n visited (outcome_of_run output n (before ++ event ∷ after))
@@ -148,11 +149,11 @@ halted_met next output n visited lawful before after event halt is ordered ended
     let same : SameFuture n one before = met.2 in
     let back : SameFuture n before one = same_back n one before same in
     let a : Alike n before one = alike n before one back (none ∙ sym (no_halt_same before one back.views none)) in
-    let front : IsRun next n before = IsRun-front next n before (event ∷ after) is in
-    let steps = Along-back (IsEvent next n) [] before (event ∷ after) is.along in
+    let front : IsPromptRun next n before = IsPromptRun-front next n before (event ∷ after) is in
+    let steps = Along-back (IsPromptEvent next n) [] before (event ∷ after) is.along in
     let numbers = Along-back (IsNumberedInOrder n) [] before (event ∷ after) ordered in
     let halting : IsHalting next (moment_at n before event.rank) event.call (pick_of n before event) halt =
-    halting_of next n before event halt (kept_run next n before lawful front) steps.0 numbers.0 here in (
+    halting_of next n before event halt (kept_prompt next n before lawful front) steps.0 numbers.0 here in (
       one,
       met.1,
       inr (record {
@@ -174,7 +175,7 @@ whole_met next output n root more visited lawful whole none meets =
           let before : List Event = root ++ f.before in
           let split : root ++ more ≡ before ++ f.event ∷ f.after = ap (λ (l : List Event). root ++ l) f.whole ∙ sym (append_assoc root f.before (f.event ∷ f.after)) in
           let free : halted before ≡ None = halted-append root f.before ∙ (ap (λ o. or_else o (halted f.before)) none ∙ f.none) in
-          let R : List Event → Type 0 = λ l. IsRun next n l in
+          let R : List Event → Type 0 = λ l. IsPromptRun next n l in
           let N : List Event → Type 0 = λ l. AreNumberedInOrder n l in
           let E : List Event → Type 0 = λ l. (rank : ℕ) → rank < n → call_after next n l rank ≡ None in
           let O : List Event → Type 0 = λ l. IsOutcomeMet next output n visited (outcome_of_run output n l) in
@@ -202,12 +203,12 @@ wanted_met : (next : Next) (output : Output) (n : ℕ) (IsWanted : List Event �
     → IsOutcomeMet next output n visited (outcome_of_run output n (root ++ more))
 wanted_met next output n IsWanted tells lawful root more visited closed whole wanted none =
     whole_met next output n root more visited lawful whole none (λ mid after e free. (
-    let R : List Event → Type 0 = λ l. IsRun next n l in
+    let R : List Event → Type 0 = λ l. IsPromptRun next n l in
     let N : List Event → Type 0 = λ l. Along (IsNumberedInOrder n) [] l in
     let K : List Event → Type 0 = λ l. Along IsWanted root l in
     let split : root ++ more ≡ (root ++ mid) ++ after = ap (λ (l : List Event). root ++ l) e ∙ sym (append_assoc root mid after) in
     met_from next n IsWanted tells root mid visited closed
-    (IsRun-front next n (root ++ mid) after (subst R split whole.run))
+    (IsPromptRun-front next n (root ++ mid) after (subst R split whole.run))
     (Along-front (IsNumberedInOrder n) [] (root ++ mid) after (subst N split whole.numbered))
     (Along-front IsWanted root mid after (subst K e wanted))
     free))

@@ -2,10 +2,10 @@
 use Rattle.std.proofs.Common.{◌∙◌, ◌∷◌, ℕ, List, [], ap, sym}
 use Rattle.run_model.specs.declared.event.Event.{Event}
 use Rattle.run_model.specs.Due.{halt_of_reply}
-use Rattle.run_model.specs.Run.{IsEvent, IsRun}
+use Rattle.run_model.specs.Run.{IsPromptEvent, IsPromptRun}
 use Rattle.run_model.specs.Views.{Next}
 use Rattle.run_model.proofs.Along.{Along-back}
-use Rattle.run_model.proofs.RunLaws.{IsRun-front}
+use Rattle.run_model.proofs.Prompt.{IsPromptRun-front}
 use Rattle.picked_runs.specs.declared.turn.Pick.{Pick}
 use Rattle.picked_runs.specs.Made.{pick_of}
 use Rattle.picked_runs.specs.Numbering.{IsNumberedInOrder}
@@ -17,7 +17,7 @@ use Rattle.run_states.proofs.RunPicks.{settled_of}
 use Rattle.run_states.proofs.RunFacts.{all_below, run_matched}
 use Rattle.run_states.proofs.Going.{allowed_goes}
 
-pub step_made : (next : Next) (n : ℕ) (before : List Event) (event : Event) → IsRun next n before → IsEvent next n before event → IsNumberedInOrder n before event
+pub step_made : (next : Next) (n : ℕ) (before : List Event) (event : Event) → IsPromptRun next n before → IsPromptEvent next n before event → IsNumberedInOrder n before event
     → IsMadeStep next n before event
 step_made next n before event front step ordered =
     let pick : Pick = pick_of n before event in
@@ -45,5 +45,5 @@ step_made next n before event front step ordered =
 
 pub every_step_is_made : (next : Next) (n : ℕ) → EveryStepIsMade next n
 every_step_is_made next n before after event is ordered =
-    step_made next n before event (IsRun-front next n before (event ∷ after) is) (Along-back (IsEvent next n) [] before (event ∷ after) is.along).0
+    step_made next n before event (IsPromptRun-front next n before (event ∷ after) is) (Along-back (IsPromptEvent next n) [] before (event ∷ after) is.along).0
     (Along-back (IsNumberedInOrder n) [] before (event ∷ after) ordered).0

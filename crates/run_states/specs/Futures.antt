@@ -22,3 +22,4 @@ pub record SameEvent (one other : List Event) (first second : Event) : Type 0 wh
   pub call : first.call ≡ second.call
   pub reply : first.reply ≡ second.reply
   pub mate : mate_name one first.mate ≡ mate_name other second.mate
+  pub met : first.met ≡ second.met

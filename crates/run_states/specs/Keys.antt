@@ -4,7 +4,7 @@ use Rattle.run_model.specs.declared.event.Event.{Event}
 use Rattle.run_model.specs.Lists.{world}
 use Rattle.run_model.specs.Numbers.{Origin, communicators_of}
 use Rattle.run_model.specs.Pairs.{Name, pairs_of, partner_of}
-use Rattle.run_model.specs.Run.{IsRun}
+use Rattle.run_model.specs.Run.{IsPromptRun}
 use Rattle.run_model.specs.Views.{Next, starts_of, view_of}
 use Rattle.srr_entry.specs.declared.entry.Entry.{Entry}
 use Rattle.srr_entry.specs.Entries.{log_of}
@@ -33,7 +33,7 @@ state_key n events =
 -- runs of one key leave the same
 abbrev pub KeysFixFutures : Next → ℕ → Type 0
 KeysFixFutures next n =
-    (one other : List Event) → IsRun next n one → IsRun next n other → state_key n one ≡ state_key n other → SameFuture n one other
+    (one other : List Event) → IsPromptRun next n one → IsPromptRun next n other → state_key n one ≡ state_key n other → SameFuture n one other
 
 -- and histories that leave the same have one key
 abbrev pub FuturesFixKeys : ℕ → Type 0

@@ -13,7 +13,7 @@ use Rattle.run_model.specs.declared.ending.Ending.TheVariants.{Finished, Halted}
 use Rattle.run_model.specs.declared.event.Event.{Event}
 use Rattle.run_model.specs.Endings.{ending_of}
 use Rattle.run_model.specs.Lists.{Along, world}
-use Rattle.run_model.specs.Run.{IsRun}
+use Rattle.run_model.specs.Run.{IsPromptRun}
 use Rattle.run_model.specs.Serial.{call_after}
 use Rattle.run_model.specs.Views.{Next, View, replies_in, view_of}
 use Rattle.picked_runs.specs.Numbering.{AreNumberedInOrder}
@@ -62,9 +62,9 @@ IsProbeKept before event =
 abbrev pub KeepsProbes : List Event → Type 0
 KeepsProbes run = Along IsProbeKept [] run
 
--- a run in which each rank has ended, with a recording machine's numbers
+-- a run in which nothing is late and each rank has ended, with a recording machine's numbers
 pub record IsWholeRun (next : Next) (n : ℕ) (events : List Event) : Type 0 where
-  pub run : IsRun next n events
+  pub run : IsPromptRun next n events
   pub ended : (rank : ℕ) → rank < n → call_after next n events rank ≡ None
   pub numbered : AreNumberedInOrder n events
   pub probes : KeepsProbes events

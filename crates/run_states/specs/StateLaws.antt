@@ -9,7 +9,7 @@ use Rattle.run_model.specs.Allowed.{can_go, flags_of}
 use Rattle.run_model.specs.Chosen.{got_of, order_of}
 use Rattle.run_model.specs.Due.{due, halt_of_reply, halted}
 use Rattle.run_model.specs.Lists.{Along}
-use Rattle.run_model.specs.Run.{IsRun}
+use Rattle.run_model.specs.Run.{IsPromptRun}
 use Rattle.run_model.specs.Serial.{call_after}
 use Rattle.run_model.specs.Views.{Next, moment_at, view_of}
 use Rattle.picked_runs.specs.declared.turn.Pick.{Pick}
@@ -31,7 +31,7 @@ pub record AnswerAlike (n : ℕ) (one other : List Event) : Type 0 where
 -- of runs that leave the same
 abbrev pub FuturesAnswerAlike : Next → ℕ → Type 0
 FuturesAnswerAlike next n =
-    (one other : List Event) → IsRun next n one → IsRun next n other → SameFuture n one other → AnswerAlike n one other
+    (one other : List Event) → IsPromptRun next n one → IsPromptRun next n other → SameFuture n one other → AnswerAlike n one other
 
 -- a pick that can be made, and leaves nothing to the order of events, makes the same event after both, and they then leave the same
 pub record GoOnAlike (n : ℕ) (one other : List Event) (me : ℕ) (call : Call) (pick : Pick) : Type 0 where
@@ -41,14 +41,14 @@ pub record GoOnAlike (n : ℕ) (one other : List Event) (me : ℕ) (call : Call)
 -- of runs that leave the same
 abbrev pub FuturesGoOnAlike : Next → ℕ → Type 0
 FuturesGoOnAlike next n =
-    (one other : List Event) (me : ℕ) (call : Call) (pick : Pick) → IsRun next n one → IsRun next n other → SameFuture n one other
+    (one other : List Event) (me : ℕ) (call : Call) (pick : Pick) → IsPromptRun next n one → IsPromptRun next n other → SameFuture n one other
     → has_pick n one me call pick ≡ true → IsPickSettled n one me call pick → GoOnAlike n one other me call pick
 
 -- a run that goes on from one history has its like, which goes on from the other: by the same ranks in the same order; it leaves the same,
 -- comes to the same, and keeps its probes if the first does
 pub record HasLike (next : Next) (output : Output) (n : ℕ) (one other more : List Event) : Type 0 where
   pub rest : List Event
-  pub run : IsRun next n (other ++ rest)
+  pub run : IsPromptRun next n (other ++ rest)
   pub numbered : AreNumberedInOrder n (other ++ rest)
   pub order : order_of rest ≡ order_of more
   pub future : SameFuture n (one ++ more) (other ++ rest)
@@ -58,7 +58,7 @@ pub record HasLike (next : Next) (output : Output) (n : ℕ) (one other more : L
 -- of runs that leave the same
 abbrev pub FuturesAreSame : Next → Output → ℕ → Type 0
 FuturesAreSame next output n =
-    (one other more : List Event) → IsRun next n (one ++ more) → AreNumberedInOrder n (one ++ more) → IsRun next n other → AreNumberedInOrder n other
+    (one other more : List Event) → IsPromptRun next n (one ++ more) → AreNumberedInOrder n (one ++ more) → IsPromptRun next n other → AreNumberedInOrder n other
     → SameFuture n one other → HasLike next output n one other more
 
 -- a step after a history is a move, or a call that is answered by a halt
@@ -71,7 +71,7 @@ pub record IsMadeStep (next : Next) (n : ℕ) (before : List Event) (event : Eve
 -- each step of a run is, so what can come of a history comes of what its moves and its halts make
 abbrev pub EveryStepIsMade : Next → ℕ → Type 0
 EveryStepIsMade next n =
-    (before after : List Event) (event : Event) → IsRun next n (before ++ event ∷ after) → AreNumberedInOrder n (before ++ event ∷ after)
+    (before after : List Event) (event : Event) → IsPromptRun next n (before ++ event ∷ after) → AreNumberedInOrder n (before ++ event ∷ after)
     → IsMadeStep next n before event
 
 -- histories that are closed under the moves that keep probes have met each run from the first of them on that keeps them, up to its first
@@ -79,7 +79,7 @@ EveryStepIsMade next n =
 abbrev pub EveryRunIsMet : Next → ℕ → Type 0
 EveryRunIsMet next n =
     (root more : List Event) (visited : List (List Event)) → AreClosed next n root IsProbeKept visited
-    → IsRun next n (root ++ more) → AreNumberedInOrder n (root ++ more) → Along IsProbeKept root more → halted (root ++ more) ≡ None
+    → IsPromptRun next n (root ++ more) → AreNumberedInOrder n (root ++ more) → Along IsProbeKept root more → halted (root ++ more) ≡ None
     → IsVisited n visited (root ++ more)
 
 -- a step that keeps probes and is patient
@@ -90,13 +90,13 @@ IsPatientStep most before event = IsProbeKept before event × IsPatientEvent mos
 abbrev pub EveryPatientRunIsMet : Next → ℕ → Type 0
 EveryPatientRunIsMet next n =
     (most : ℕ) (root more : List Event) (visited : List (List Event)) → AreClosed next n root (IsPatientStep most) visited
-    → IsRun next n (root ++ more) → AreNumberedInOrder n (root ++ more) → Along (IsPatientStep most) root more → halted (root ++ more) ≡ None
+    → IsPromptRun next n (root ++ more) → AreNumberedInOrder n (root ++ more) → Along (IsPatientStep most) root more → halted (root ++ more) ≡ None
     → IsVisited n visited (root ++ more)
 
 -- a run that has ended, and was first halted after these events, comes to what they and the halt decide
 abbrev pub HaltsDecideOutcomes : Next → Output → ℕ → Type 0
 HaltsDecideOutcomes next output n =
-    (before after : List Event) (event : Event) (halt : Halt) → IsRun next n (before ++ event ∷ after)
+    (before after : List Event) (event : Event) (halt : Halt) → IsPromptRun next n (before ++ event ∷ after)
     → ((rank : ℕ) → rank < n → call_after next n (before ++ event ∷ after) rank ≡ None)
     → halted before ≡ None → event.reply ≡ Stopped halt
     → outcome_of_run output n (before ++ event ∷ after) ≡ halted_outcome next output n before halt

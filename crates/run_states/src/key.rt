@@ -1,6 +1,6 @@
 //! What a search looks a run up by.
 ghost use Rattle.std.specs.Prelude.{◌≡◌, IfOk};
-ghost use Rattle.run_model.specs.Run.{IsRun};
+ghost use Rattle.run_model.specs.Run.{IsPromptRun};
 ghost use Rattle.run_states.specs.Codes.{key_code};
 ghost use Rattle.run_states.specs.Keys.{state_key};
 
@@ -21,7 +21,7 @@ pub fn code_of_run<P: Program>(
     n: u8,
     history: &History,
 ) -> Result<StateCode, AllocError>
-    requires { IsRun (P.next program.now) n history.now.events }
+    requires { IsPromptRun (P.next program.now) n history.now.events }
     ensures { IfOk result (λ code. code.numbers.items ≡ key_code (state_key n history.now.events)) }
 {
     let all = all_ranks(alloc, n)?;

@@ -1,28 +1,41 @@
 //! The pairs of a history, and the partners of its starts.
 ghost use Rattle.std.specs.Prelude.{◌≡◌, ◌++◌, IfOk, OnOk, map};
 ghost use Rattle.run_model.specs.Lists.{world};
-ghost use Rattle.run_model.specs.Pairs.{pair_of, pairs_of, partner_of};
+ghost use Rattle.run_model.specs.Pairs.{mated, pairs_of, partner_of};
 ghost use Rattle.run_states.specs.Codes.{code_of_partner, code_of_partners, codes_of};
 ghost use Rattle.run_states.specs.Keys.{partners_in};
 
 use crate::code::StateCode;
 use crate::starts::{RankAndNumber, mate_in, starts_in};
-use run_model::event::Event;
+use run_model::event::{Event, StartName};
 use std::alloc::{AllocError, Global};
 
-/// Adds the pair that an event makes, if it makes one.
-fn add_pair(
+/// Adds the pair that an event makes with its mate, if it has one.
+fn add_mated(
     pairs: &mut Vec<(RankAndNumber, RankAndNumber)>,
     before: &[Event],
     event: &Event,
 ) -> Result<(), AllocError>
-    ensures { OnOk result (pairs.new.items ≡ pairs.old.items ++ pair_of before.now event.now) }
+    ensures { OnOk result (pairs.new.items ≡ pairs.old.items ++ mated before.now event.now) }
 {
     let Some(earlier) = mate_in(before, event.mate) else {
         return Ok(());
     };
     let later = (event.rank, starts_in(before, event.rank));
     pairs.push((earlier, later))?;
+    Ok(())
+}
+
+/// Adds the pairs that meet after an event.
+fn add_met(
+    pairs: &mut Vec<(RankAndNumber, RankAndNumber)>,
+    met: &[(StartName, StartName)],
+) -> Result<(), AllocError>
+    ensures { OnOk result (pairs.new.items ≡ pairs.old.items ++ met.now) }
+{
+    for (one, other) in met.iter() {
+        pairs.push(((one.0, one.1 as usize), (other.0, other.1 as usize)))?;
+    }
     Ok(())
 }
 
@@ -35,7 +48,8 @@ pub fn pairs_of(
 {
     let mut pairs = Vec::new(alloc);
     for (at, event) in events.iter().enumerate() {
-        add_pair(&mut pairs, &events[..at], event)?;
+        add_mated(&mut pairs, &events[..at], event)?;
+        add_met(&mut pairs, event.met.as_slice())?;
     }
     Ok(pairs)
 }

@@ -24,7 +24,7 @@ use Rattle.view_tables.proofs.StartTableLemmas.{takes_made}
 -- the event of a reply keeps it a replay
 pub Replays-after : (next : Next) (log : Log) (stop : Breakpoint) (events : List Event) (rank : ℕ) (call : Call) (reply : Reply) → Replays next log stop events → is_member log.group rank ≡ true → next log.ranks rank (replies_in (view_of events rank)) ≡ Some call → replay_answer log stop (view_of events) rank (view_of events rank) call ≡ Replied reply → Replays next log stop (events ++ replied_event rank call reply ∷ [])
 Replays-after next log stop events rank call reply all member asked answered =
-    Along-snoc (IsReplayStep next log stop) [] events _ all (record { member = member; call = asked; reply = answered; mate = refl })
+    Along-snoc (IsReplayStep next log stop) [] events _ all (record { member = member; call = asked; reply = answered; mate = refl; alone = refl })
 
 -- each rank has got replies in shape alone, and no rank outside the group has an event
 pub record Came (next : Next) (log : Log) (events : List Event) : Type 0 where

@@ -16,7 +16,7 @@ use mpi_call::call::Call;
 use mpi_call::reply::Reply;
 use mpi_call::{call, reply};
 use replay_model::step::Step;
-use run_model::event::Event;
+use run_model::event::{Event, Meetings};
 use run_model::history::History;
 use run_model::program::Program;
 use srr_entry::log::Log;
@@ -160,7 +160,7 @@ impl<'a, P: Program> Replay<'a, P> {
     }
 }
 
-/// The event of a reply, which it copies with the call.
+/// The event of a reply, which it copies with the call; nothing meets after it.
 fn event_of(rank: u8, call: &Call, reply: &Reply) -> Result<Event, AllocError>
     ensures { IfOk result (λ event. event ≡ replied_event rank call.now reply.now) }
 {
@@ -171,5 +171,6 @@ fn event_of(rank: u8, call: &Call, reply: &Reply) -> Result<Event, AllocError>
         call,
         reply,
         mate: None,
+        met: Meetings::none(),
     })
 }

@@ -1,5 +1,7 @@
 -- A run that is halted as stuck, before and from its first stop on.
-use Rattle.std.proofs.Common.{if◌then◌else◌, ◌≡◌, ◌<◌, ◌⊎◌, ◌∙◌, ◌++◌, ◌∷◌, ◌==◌, [], ℕ, List, Option, Some, None, Bool, true, false, not, inl, inr, ap, length, refl, slice_get, subst, sym, append-nil}
+use Rattle.std.proofs.Common.{if◌then◌else◌, ◌≡◌, ◌<◌, ◌⊎◌, ◌∙◌, ◌++◌, ◌∷◌, ◌==◌, [], ℕ, List, Option, Some, None, Bool, true, false, not, inl, inr, ap, length, refl, slice_get, subst, sym, append-nil, ◌&&◌, ◌+◌, zero, suc, arith, map, is_some, nat_le, nat_lt, slice_index}
+use Rattle.std.proofs.lemmas.Bool.{and_parts, ltb-true, or_left, or_right}
+use Rattle.std.specs.List.{list_all, list_any}
 use Rattle.mpi_call.specs.declared.call.Call.{Call}
 use Rattle.mpi_call.specs.declared.call.Call.TheVariants.{Abort, End, Enter, Peek, Post, Send, Take, Trap}
 use Rattle.mpi_call.specs.declared.call.Halt.{Halt}
@@ -7,19 +9,21 @@ use Rattle.mpi_call.specs.declared.call.Halt.TheVariants.{BadRequest, Limit, Mis
 use Rattle.mpi_call.specs.declared.call.Source.{Source}
 use Rattle.mpi_call.specs.declared.call.Tag.{Tag}
 use Rattle.mpi_call.specs.declared.call.TakeMode.{TakeMode}
+use Rattle.mpi_call.specs.declared.call.TakeMode.TheVariants.{All, Any as AnyOne, Several, TestAll, TestAny, TestSeveral}
 use Rattle.mpi_call.specs.declared.reply.Item.{Item}
 use Rattle.mpi_call.specs.declared.reply.Reply.{Reply}
 use Rattle.mpi_call.specs.declared.reply.Reply.TheVariants.{Done, NotYet, Peeked, Stopped, Took}
 use Rattle.run_model.specs.declared.event.Event.{Event}
-use Rattle.run_model.specs.Allowed.{IsAllowed, IsAllowedBy, IsAnswer, IsHeld, IsPeekAnswer, IsStuck, IsTakeAnswer, first_long, flags_of, has_open, mode_holds, taken_reply, probe_of}
+use Rattle.run_model.specs.Allowed.{IsAllowed, IsAllowedBy, IsAnswer, IsHeld, IsPeekAnswer, IsTakeAnswer, first_long, flags_of, has_open, mode_holds, taken_reply, probe_of, IsDeadlock, IsLate, IsPartReply, can_go, is_prompt}
 use Rattle.run_model.specs.Due.{bad_request, due, halt_at, halt_of_reply, halted, is_full, is_mismatched, or_else, stops}
 use Rattle.run_model.specs.Lists.{Along}
+use Rattle.run_model.specs.Readiness.{is_ready}
 use Rattle.run_model.specs.Run.{IsEvent, IsRun}
 use Rattle.run_model.specs.Serial.{call_after}
-use Rattle.run_model.specs.Shape.{is_test}
-use Rattle.run_model.specs.Views.{Next, View, moment_of, replies_in, view_of}
+use Rattle.run_model.specs.Shape.{is_test, rise_within}
+use Rattle.run_model.specs.Views.{Next, View, moment_of, replies_in, view_of, start_at}
 use Rattle.run_model.proofs.Along.{Along-back}
-use Rattle.run_model.proofs.ChosenLaws.{cannot_go}
+use Rattle.run_model.proofs.ChosenLaws.{allowed_stuck}
 use Rattle.run_model.proofs.Places.{place}
 use Rattle.run_model.proofs.RunLaws.{IsRun-event}
 use Rattle.run_model.proofs.Views.{option_cases, test_cases, view_of-append}
@@ -146,18 +150,36 @@ due_not_stuck n before me own call none h = elim (test_cases (is_full before)) [
   | inr t ↦ brings_none n before me own call (rw (none, t) at h)
 ]
 
+-- nor is it told late
+late_not_stuck : (n : ℕ) (before : List Event) (me : ℕ) (own : View) (call : Call) (reply : Reply)
+    → IsLate (moment_of n before me own) call reply → reply ≡ Stopped Stuck → ⊥
+late_not_stuck n before me own (Take starts mode) reply is h = elim is [
+  | inl not_yet ↦ (let no : NotYet ≡ Stopped Stuck = sym not_yet.2 ∙ h in cc)
+  | inr part ↦ not_taken (first_long own starts part.items) part.items me reply part.reply_is h
+]
+late_not_stuck n before me own (Peek comm source tag wait) reply is h = (let no : NotYet ≡ Stopped Stuck = sym is.1 ∙ h in cc)
+late_not_stuck n before me own (Send comm dest tag ints sync) reply is h = is
+late_not_stuck n before me own (Post comm source tag room) reply is h = is
+late_not_stuck n before me own (Enter comm kind root op count ints) reply is h = is
+late_not_stuck n before me own (Abort code) reply is h = is
+late_not_stuck n before me own (Trap fault) reply is h = is
+late_not_stuck n before me own End reply is h = is
+
 stuck_then : (next : Next) (n : ℕ) (before : List Event) (me : ℕ) (call : Call) (reply : Reply) → halted before ≡ None
-    → IsAllowed next n before me call reply → reply ≡ Stopped Stuck → IsStuck next n before
+    → IsAllowed next n before me call reply → reply ≡ Stopped Stuck → IsDeadlock next n before
 stuck_then next n before me call reply none is h =
     let own : View = view_of before me in
-    let F : Option Halt → Type 0 = λ x. IsAllowedBy x (IsStuck next n before) (moment_of n before me own) call reply in
-    elim (option_cases (due n before me own call)) [
-      | inl some ↦ (
-          let stopped : reply ≡ Stopped some.0 = subst F some.1 is in
-          let both : Stopped some.0 ≡ Stopped Stuck = sym stopped ∙ h in
-          let same : some.0 ≡ Stuck = cc in
-          absurd (due_not_stuck n before me own call none (some.1 ∙ ap (λ x. Some x) same)))
-      | inr free ↦ answer_gives (IsStuck next n before) n before me own call reply (subst F free is) h
+    let F : Option Halt → Type 0 = λ x. IsAllowedBy x (IsDeadlock next n before) (moment_of n before me own) call reply in
+    elim is [
+      | inl given ↦ elim (option_cases (due n before me own call)) [
+        | inl some ↦ (
+            let stopped : reply ≡ Stopped some.0 = subst F some.1 given.0 in
+            let both : Stopped some.0 ≡ Stopped Stuck = sym stopped ∙ h in
+            let same : some.0 ≡ Stuck = cc in
+            absurd (due_not_stuck n before me own call none (some.1 ∙ ap (λ x. Some x) same)))
+        | inr free ↦ answer_gives (IsDeadlock next n before) n before me own call reply (subst F free given.0) h
+      ]
+      | inr late ↦ absurd (late_not_stuck n before me own call reply late.1 h)
     ]
 
 -- after a halt each reply is that halt
@@ -165,10 +187,73 @@ told : (next : Next) (n : ℕ) (before : List Event) (me : ℕ) (call : Call) (r
     → IsAllowed next n before me call reply → reply ≡ Stopped halt
 told next n before me call reply halt was is =
     let own : View = view_of before me in
-    let F : Option Halt → Type 0 = λ x. IsAllowedBy (or_else x (if is_full before then Some Limit else halt_at n before me own call)) (IsStuck next n before) (moment_of n before me own) call reply in
-    subst F was is
+    let F : Option Halt → Type 0 = λ x. IsAllowedBy (or_else x (if is_full before then Some Limit else halt_at n before me own call)) (IsDeadlock next n before) (moment_of n before me own) call reply in
+    elim is [
+      | inl given ↦ subst F was given.0
+      | inr late ↦ (let no : Some halt ≡ None = rw was at late.0 in absurd (cc))
+    ]
 
--- 3. a run in which each rank has ended
+-- 3. a call that can't go is told so
+
+-- among what is listed is a start that is ready
+some_ready : (ready : ℕ → Bool) (starts : List ℕ) (index : ℕ) → index < length starts → ready (slice_index starts index) ≡ true
+    → list_any (λ (x : Bool). x) (map ready starts) ≡ true
+some_ready ready [] index low is = absurd (omega (arith, low))
+some_ready ready (k ∷ starts) zero low is = or_left (ready k) (list_any (λ (x : Bool). x) (map ready starts)) is
+some_ready ready (k ∷ starts) (suc index) low is =
+    let less : suc index < suc (length starts) = low in
+    or_right (ready k) (list_any (λ (x : Bool). x) (map ready starts)) (some_ready ready starts index (omega (arith, less)) is)
+
+part_ready : (n : ℕ) (before : List Event) (me : ℕ) (own : View) (starts : List ℕ) (items : List Item) → 0 < length items
+    → rise_within 0 (length starts) (map (λ (item : Item). item.index) items) ≡ true
+    → list_all (λ (item : Item). is_ready (moment_of n before me own) (slice_index starts item.index) (start_at own (slice_index starts item.index))) items ≡ true
+    → list_any (λ (x : Bool). x) (flags_of (moment_of n before me own) starts) ≡ true
+part_ready n before me own starts [] some rising ready = absurd (omega (arith, some))
+part_ready n before me own starts (item ∷ items) some rising ready =
+    let indices : List ℕ = map (λ (item : Item). item.index) items in
+    let later = and_parts (nat_le 0 item.index) (nat_lt item.index (length starts) && rise_within (item.index + 1) (length starts) indices) rising in
+    let low = and_parts (nat_lt item.index (length starts)) (rise_within (item.index + 1) (length starts) indices) later.1 in
+    let test : Item → Bool = λ i. is_ready (moment_of n before me own) (slice_index starts i.index) (start_at own (slice_index starts i.index)) in
+    some_ready (λ k. is_ready (moment_of n before me own) k (start_at own k)) starts item.index (ltb-true item.index (length starts) low.0)
+    (and_parts (test item) (list_all test items) ready).0
+
+part_goes : (n : ℕ) (before : List Event) (me : ℕ) (own : View) (starts : List ℕ) (mode : TakeMode) (reply : Reply)
+    → IsPartReply (moment_of n before me own) starts mode reply → is_prompt n before me own (Take starts mode) ≡ true
+part_goes n before me own starts Several reply is = part_ready n before me own starts is.items is.some is.rising is.ready
+part_goes n before me own starts TestSeveral reply is = refl
+part_goes n before me own starts All reply is = (let no = is.mode_is in absurd (cc))
+part_goes n before me own starts AnyOne reply is = (let no = is.mode_is in absurd (cc))
+part_goes n before me own starts TestAll reply is = refl
+part_goes n before me own starts TestAny reply is = refl
+
+late_goes : (n : ℕ) (before : List Event) (me : ℕ) (own : View) (call : Call) (reply : Reply)
+    → IsLate (moment_of n before me own) call reply → is_prompt n before me own call ≡ true
+late_goes n before me own (Take starts mode) reply is = elim is [
+  | inl not_yet ↦ or_left (is_test mode) (mode_holds mode (flags_of (moment_of n before me own) starts)) not_yet.0
+  | inr part ↦ part_goes n before me own starts mode reply part
+]
+late_goes n before me own (Peek comm source tag wait) reply is = rw is.0 refl
+late_goes n before me own (Send comm dest tag ints sync) reply is = absurd is
+late_goes n before me own (Post comm source tag room) reply is = absurd is
+late_goes n before me own (Enter comm kind root op count ints) reply is = absurd is
+late_goes n before me own (Abort code) reply is = absurd is
+late_goes n before me own (Trap fault) reply is = absurd is
+late_goes n before me own End reply is = absurd is
+
+told_stuck : (next : Next) (n : ℕ) (before : List Event) (me : ℕ) (call : Call) (reply : Reply)
+    → can_go n before me (view_of before me) call ≡ false → IsAllowed next n before me call reply → reply ≡ Stopped Stuck
+told_stuck next n before me call reply h is =
+    let own : View = view_of before me in
+    let halt : Option Halt = due n before me own call in
+    elim is [
+      | inl given ↦ allowed_stuck halt (IsDeadlock next n before) n before own me call reply h given.0
+      | inr late ↦ (
+          let goes : can_go n before me own call ≡ true = or_right (is_some halt) (is_prompt n before me own call) (late_goes n before me own call reply late.1) in
+          let no : true ≡ false = sym goes ∙ h in
+          absurd (cc))
+    ]
+
+-- 4. a run in which each rank has ended
 
 asked_of : (next : Next) (n : ℕ) (before : List Event) (event : Event) (rank : ℕ) (view : View) (call : Call)
     → next n event.rank (replies_in (view_of before event.rank)) ≡ Some event.call → event.rank ≡ rank → view_of before rank ≡ view → event.call ≡ call
@@ -216,7 +301,7 @@ module _ (next : Next) (n : ℕ) (events : List Event) (is : IsEndedRun next n e
   pub stopped_is : (rank : ℕ) → rank < n → stopped_call events rank ≡ call_after next n G rank
   stopped_is rank below = stopped_is_by rank (view_of (halting events) rank) below refl
 
-  -- 4. halted as stuck if and only if no call could go
+  -- 5. halted as stuck if and only if no call could go
   dead_if : halted events ≡ Some Stuck → IsDead next n G
   dead_if stuck = elim (first_stop events) [
     | inl first ↦ (
@@ -229,8 +314,20 @@ module _ (next : Next) (n : ℕ) (events : List Event) (is : IsEndedRun next n e
           call = first.event.call;
           below = step.rank;
           live = step.call;
-          stuck = stuck_then next n G first.event.rank first.event.call first.event.reply (halted-going events) step.reply reply;
+          stuck = (stuck_then next n G first.event.rank first.event.call first.event.reply (halted-going events) step.reply reply).0;
         })
+    | inr none ↦ (let no : None ≡ Some Stuck = sym (halted-whole events ∙ ap halted none) ∙ stuck in absurd (cc))
+  ]
+
+  -- and then no pair can meet
+  pub deadlock_if : halted events ≡ Some Stuck → IsDeadlock next n G
+  deadlock_if stuck = elim (first_stop events) [
+    | inl first ↦ (
+        let step = first_event first in
+        let both : Some first.halt ≡ Some Stuck = sym (halted_first events first) ∙ stuck in
+        let same : first.halt ≡ Stuck = cc in
+        let reply : first.event.reply ≡ Stopped Stuck = first.by ∙ ap (λ h. Stopped h) same in
+        stuck_then next n G first.event.rank first.event.call first.event.reply (halted-going events) step.reply reply)
     | inr none ↦ (let no : None ≡ Some Stuck = sym (halted-whole events ∙ ap halted none) ∙ stuck in absurd (cc))
   ]
 
@@ -238,14 +335,14 @@ module _ (next : Next) (n : ℕ) (events : List Event) (is : IsEndedRun next n e
   halted_if dead = elim (first_stop events) [
     | inl first ↦ (
         let step = first_event first in
-        let reply = cannot_go next n G first.event.rank first.event.call first.event.reply (dead.stuck first.event.rank first.event.call step.rank step.call) step.reply in
+        let reply = told_stuck next n G first.event.rank first.event.call first.event.reply (dead.stuck first.event.rank first.event.call step.rank step.call) step.reply in
         let both : Stopped first.halt ≡ Stopped Stuck = sym first.by ∙ reply in
         let same : first.halt ≡ Stuck = cc in
         halted_first events first ∙ ap (λ h. Some h) same)
     | inr none ↦ absurd (live_halts dead.rank dead.call dead.below dead.live (ap (λ l. view_of l dead.rank) none))
   ]
 
-  -- 5. the blocked ranks
+  -- 6. the blocked ranks
   stopped_all : (before rest : List Event) (halt : Halt) (rank : ℕ) (call : Call) (reply : Reply) (view : View) → halted before ≡ Some halt → Along (IsEvent next n) before rest
       → view_of rest rank ≡ (call, reply) ∷ view → reply ≡ Stopped halt
   stopped_all before [] halt rank call reply view was all e = absurd (cc)

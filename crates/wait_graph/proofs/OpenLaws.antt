@@ -13,7 +13,7 @@ use Rattle.run_model.specs.declared.event.Event.{Event}
 use Rattle.run_model.specs.Allowed.{can_go, has_open, is_prompt}
 use Rattle.run_model.specs.Due.{due}
 use Rattle.run_model.specs.Lists.{are_below, world}
-use Rattle.run_model.specs.Pairs.{IsMatched, Name, named, pairs_of, partner_of}
+use Rattle.run_model.specs.Pairs.{IsAllMatched, Name, named, pairs_of, partner_of}
 use Rattle.run_model.specs.Readiness.{is_ready}
 use Rattle.run_model.specs.Run.{IsRun}
 use Rattle.run_model.specs.Views.{Next, View, is_done, is_start, moment_at, start_at, starts_of, view_of}
@@ -27,7 +27,7 @@ use Rattle.wait_graph.specs.Opens.{first_open_send, listed_open, open_send_from,
 use Rattle.wait_graph.specs.Waits.{awaited_by, wait_at, waits_at, waits_in}
 use Rattle.wait_graph.proofs.FoundLemmas.{below_all}
 use Rattle.wait_graph.proofs.Fitting.{none_fits, none_found}
-use Rattle.wait_graph.proofs.Halting.{parts_are, stuck_exactly}
+use Rattle.wait_graph.proofs.Halting.{parts_are, stuck_exactly, deadlock_if}
 
 none_or : {A : Type 0} (o : Option A) → is_some o ≡ false → o ≡ None
 none_or None h = refl
@@ -164,7 +164,7 @@ unpaired n G me k comm room Any tag h = none_or (partner_of (pairs_of G) (me, k)
 unpaired n G me k comm room (From rank) tag h = none_or (partner_of (pairs_of G) (me, k)) h
 unpaired n G me k comm room Null tag h = absurd (cc)
 
-start_differs : (n : ℕ) (G : List Event) (me : ℕ) (found : Open) (call : Call) → IsMatched G → IsOpenTo n G me found → ((comm : ℕ) (source : Source) (tag : Tag) (wait : Bool) → call ≡ Peek comm source tag wait → ⊥)
+start_differs : (n : ℕ) (G : List Event) (me : ℕ) (found : Open) (call : Call) → IsAllMatched G → IsOpenTo n G me found → ((comm : ℕ) (source : Source) (tag : Tag) (wait : Bool) → call ≡ Peek comm source tag wait → ⊥)
     → IsUnready n G me call → DiffersFrom found call
 start_differs n G me found (Post comm source tag room) matched is_open no_probe is =
     none_fits G (me, is.k) (found.name.rank, found.name.start) comm room found.comm found.tag source tag is_open.ints is_open.sync matched
@@ -199,7 +199,7 @@ no_probe n G me call is comm source tag wait e =
     cc
 
 -- a blocked rank's call
-call_differs : (n : ℕ) (G : List Event) (me : ℕ) (call : Call) (wait : Wait) (found : Open) → IsMatched G → can_go n G me (view_of G me) call ≡ false
+call_differs : (n : ℕ) (G : List Event) (me : ℕ) (call : Call) (wait : Wait) (found : Open) → IsAllMatched G → can_go n G me (view_of G me) call ≡ false
     → IsIn wait (waits_at n G me call) → IsOpenTo n G me found → DiffersFrom found wait.call
 call_differs n G me (Take starts mode) wait found matched held among is_open =
     let is = wait_is n G me starts wait among in
@@ -228,5 +228,5 @@ opens_differ next n lawful events is stuck rank call below live wait found among
     let F : List Event → Type 0 = λ l. IsRun next n l in
     let run : IsRun next n G = IsRun-front next n G (halting events) (subst F (sym (parts_are events)) is.is_run) in
     let dead : IsDead next n G = (stuck_exactly next n events is).0 stuck in
-    call_differs n G rank call wait found (kept_run next n G lawful run).matched (dead.stuck rank call below live) among
+    call_differs n G rank call wait found (record { matched = (kept_run next n G lawful run).matched; nothing_waits = (deadlock_if next n events is stuck).1 }) (dead.stuck rank call below live) among
     (listed_is n G (world n 0) rank found (below_all n (world n 0) refl) is_open)

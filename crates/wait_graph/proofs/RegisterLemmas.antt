@@ -1,22 +1,24 @@
 -- What is kept beside the events of a run, with one more event.
 use Rattle.std.proofs.Common.{◌≡◌, ◌≢◌, ◌<◌, ◌≤◌, ◌+◌, ◌-◌, ◌^◌, ◌∙◌, ◌++◌, ◌∷◌, ◌||◌, ◌==◌, [], ℕ, zero, suc, List, Option, Some, None, Bool, true, false, inl, inr, ap, arith, append-nil, append_assoc, drop, filter, get_or, if◌then◌else◌, is_some, length, length-append, option_map, refl, get_or-set_other, get_or-set_same, length-set, nat_lt, slice_get, slice_set, subst, sym, take}
 use Rattle.std.proofs.lemmas.Bool.{cases_order, eq-eqb, eqb-true, lt-ltb, ltb-true}
+use Rattle.std.proofs.lemmas.Option.{slice_get-get_or}
 use Rattle.std.specs.List.{list_any, slice_index_or}
 use Rattle.mpi_call.specs.declared.call.Call.{Call}
 use Rattle.mpi_call.specs.declared.reply.Reply.{Reply}
 use Rattle.run_model.specs.declared.event.Event.{Event}
 use Rattle.run_model.specs.Communicators.{count_on, enter_at, entered_from, is_on, known_first, learned}
-use Rattle.run_model.specs.Pairs.{Name, name_at, name_of_start, pair_with, pairs_of, partner_of, same_name}
+use Rattle.run_model.specs.Pairs.{Name, mated, name_at, name_of_start, pair_with, pairs_of, partner_of, same_name}
 use Rattle.run_model.specs.Program.{ends}
 use Rattle.run_model.specs.Views.{View, is_start, starts_of, view_of}
 use Rattle.run_model.proofs.StartLemmas.{starts_of-append}
 use Rattle.run_model.proofs.Views.{length-view_of, option_cases, test_cases, view_of-other, view_of-own}
-use Rattle.picked_runs.proofs.Grown.{pairs_of-push}
+use Rattle.run_model.proofs.Meeting.{pairs_of-push}
 use Rattle.srr_entry.specs.Known.{IsKnownOf}
 use Rattle.wait_graph.specs.declared.register.Register.{Register}
 use Rattle.wait_graph.specs.declared.own.RankRecord.{RankRecord}
 use Rattle.msg_races.specs.declared.names.Name.{Name as StartName}
 use Rattle.wait_graph.specs.Register.{AreNames, ArePartners, IsRegister, IsRankRecord, count_one, count_start, earlier_in, name_pair, named_by}
+use Rattle.msg_races.specs.Names.{same_start}
 use Rattle.wait_graph.specs.inside.Names.{is_either}
 use Rattle.wait_graph.specs.Partners.{is_paired_in}
 use Rattle.wait_graph.specs.Taken.{AreTaken}
@@ -150,6 +152,49 @@ some-push (pair ∷ P) a b x = elim (test_cases (same_name pair.0 x)) [
   ]
 ]
 
+some-append : (P Q : List (Name × Name)) (x : Name) → is_some (partner_of (P ++ Q) x) ≡ (is_some (partner_of P x) || is_some (partner_of Q x))
+some-append [] Q x = refl
+some-append (pair ∷ P) Q x = elim (test_cases (same_name pair.0 x)) [
+  | inl t ↦ rw t refl
+  | inr t ↦ elim (test_cases (same_name pair.1 x)) [
+    | inl u ↦ rw (t, u) refl
+    | inr u ↦ rw (t, u) (some-append P Q x)
+  ]
+]
+
+-- one pair more of those that are listed
+take_more : (pairs : List (Name × Name)) (at : ℕ) (pair : Name × Name) → slice_get pairs at ≡ Some pair → take (suc at) pairs ≡ take at pairs ++ pair ∷ []
+take_more [] at pair h = absurd (cc)
+take_more (x ∷ pairs) zero pair h = (let same : x ≡ pair = cc in ap (λ (p : Name × Name). p ∷ []) same)
+take_more (x ∷ pairs) (suc at) pair h = ap (λ l. x ∷ l) (take_more pairs at pair h)
+
+or-assoc : (a b c : Bool) → ((a || b) || c) ≡ (a || (b || c))
+or-assoc true b c = refl
+or-assoc false b c = refl
+
+pub joined_more : (pairs : List (Name × Name)) (at : ℕ) (d : Name × Name) (first old new : Bool) (one other name : StartName) → at < length pairs
+    → one ≡ record { rank = (slice_index_or pairs at d).0.0; start = (slice_index_or pairs at d).0.1 }
+    → other ≡ record { rank = (slice_index_or pairs at d).1.0; start = (slice_index_or pairs at d).1.1 }
+    → old ≡ (first || is_some (partner_of (take at pairs) (name_pair name))) → new ≡ (old || (same_start one name || same_start other name))
+    → new ≡ (first || is_some (partner_of (take (at + 1) pairs) (name_pair name)))
+joined_more pairs at d first old new one other name low one_is other_is old_is new_is =
+    let pair : Name × Name = slice_index_or pairs at d in
+    let some : Bool = is_some (partner_of (take at pairs) (name_pair name)) in
+    let next : at + 1 ≡ suc at = omega arith in
+    let grown : is_some (partner_of (take (at + 1) pairs) (name_pair name)) ≡ (some || (same_name pair.0 (name_pair name) || same_name pair.1 (name_pair name))) =
+    ap (λ k. is_some (partner_of (take k pairs) (name_pair name))) next ∙ (ap (λ l. is_some (partner_of l (name_pair name))) (take_more pairs at pair (slice_get-get_or pairs at d low))
+    ∙ some-push (take at pairs) pair.0 pair.1 (name_pair name)) in
+    let names : (same_start one name || same_start other name) ≡ (same_name pair.0 (name_pair name) || same_name pair.1 (name_pair name)) =
+    ap (λ (s : StartName). same_start s name || same_start other name) one_is ∙ ap (λ (s : StartName). same_name pair.0 (name_pair name) || same_start s name) other_is in
+    new_is ∙ (ap (λ b. b || (same_start one name || same_start other name)) old_is
+    ∙ (or-assoc first some (same_start one name || same_start other name) ∙ ap (λ b. first || b) (ap (λ b. some || b) names ∙ sym grown)))
+
+pub joined_all : (pairs : List (Name × Name)) (at : ℕ) → length pairs ≤ at → take at pairs ≡ pairs
+joined_all [] zero h = refl
+joined_all [] (suc at) h = refl
+joined_all (x ∷ pairs) zero h = absurd (omega (arith, h))
+joined_all (x ∷ pairs) (suc at) h = (let less : suc (length pairs) ≤ suc at = h in ap (λ l. x ∷ l) (joined_all pairs at (omega (arith, less))))
+
 or-nothing : (b : Bool) → b ≡ (b || false)
 or-nothing true = refl
 or-nothing false = refl
@@ -161,7 +206,7 @@ some-with P (Some earlier) name other = some-push P (name_pair earlier) (name_pa
 
 pub partners_more : (before : List Event) (event : Event) (names : List (Option StartName)) (old new : List (List Bool)) (name : StartName) → AreNames before names → ArePartners before old
     → name.rank ≡ event.rank → name.start ≡ length (starts_of (view_of before event.rank))
-    → ((other : StartName) → is_paired_in new other ≡ (is_paired_in old other || is_either (earlier_in names event.mate) name other))
+    → ((other : StartName) → is_paired_in new other ≡ ((is_paired_in old other || is_either (earlier_in names event.mate) name other) || is_some (partner_of event.met (name_pair other))))
     → ArePartners (before ++ event ∷ []) new
 partners_more before event names old new name are partners rank start joined =
     let later : Name = (event.rank, length (starts_of (view_of before event.rank))) in
@@ -179,8 +224,10 @@ partners_more before event names old new name are partners rank start joined =
     ] in
     record {
       each = λ other.
-          joined other ∙ ap (λ b. b || is_either (earlier_in names event.mate) name other) (partners.each other)
-          ∙ sym (ap (λ l. is_some (partner_of l (name_pair other))) (pairs_of-push before event) ∙ grown other);
+          joined other ∙ ap (λ b. (b || is_either (earlier_in names event.mate) name other) || is_some (partner_of event.met (name_pair other))) (partners.each other)
+          ∙ sym (ap (λ l. is_some (partner_of l (name_pair other))) (pairs_of-push before event ∙ sym (append_assoc P (mated before event) event.met))
+          ∙ some-append (P ++ mated before event) event.met (name_pair other)
+          ∙ ap (λ b. b || is_some (partner_of event.met (name_pair other))) (grown other));
     }
 
 -- 4. the register
@@ -199,7 +246,7 @@ pub register_more : (n : ℕ) (before : List Event) (event : Event) (old new : R
     → new.ranks.items ≡ slice_set old.ranks.items event.rank own
     → ((d : RankRecord) → IsRankRecord n (view_of before event.rank) (slice_index_or old.ranks.items event.rank d) → IsRankRecord n (view_of before event.rank ++ (event.call, event.reply) ∷ []) own)
     → new.names.items ≡ old.names.items ++ named_by event name ∷ [] → name.rank ≡ event.rank → ((d : RankRecord) → name.start ≡ (slice_index_or old.ranks.items event.rank d).starts)
-    → ((other : StartName) → is_paired_in new.partners other ≡ (is_paired_in old.partners other || is_either (earlier_in old.names.items event.mate) name other))
+    → ((other : StartName) → is_paired_in new.partners other ≡ ((is_paired_in old.partners other || is_either (earlier_in old.names.items event.mate) name other) || is_some (partner_of event.met (name_pair other))))
     → IsRegister n (before ++ event ∷ []) new
 register_more n before event old new name own is low ranks grown names rank start joined =
     let number : name.start ≡ length (starts_of (view_of before event.rank)) = start own ∙ (is.ranks event.rank own low).starts in

@@ -21,7 +21,7 @@ use Rattle.wait_graph.specs.Taken.{taken_last}
 use Rattle.wait_graph.specs.Waits.{senders, waits_at}
 
 abbrev event_of : ℕ → Call → Reply → Option ℕ → Event
-event_of rank call reply mate = record { rank = rank; call = call; reply = reply; mate = mate }
+event_of rank call reply mate = record { rank = rank; call = call; reply = reply; mate = mate; met = [] }
 
 -- 1. rank 0 receives from any rank and then from rank 2; ranks 1 and 2 send it a message each and end. It took that of rank 2.
 

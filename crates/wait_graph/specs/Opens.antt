@@ -9,7 +9,7 @@ use Rattle.msg_races.specs.declared.names.Name.{Name as StartName}
 use Rattle.run_model.specs.declared.event.Event.{Event}
 use Rattle.run_model.specs.Allowed.{has_open}
 use Rattle.run_model.specs.Lists.{world}
-use Rattle.run_model.specs.Pairs.{Name, IsMatched, named, pairs_of, partner_of}
+use Rattle.run_model.specs.Pairs.{Name, IsAllMatched, named, pairs_of, partner_of}
 use Rattle.run_model.specs.Views.{starts_of, view_of}
 use Rattle.wait_graph.specs.declared.difference.Difference.{Difference}
 use Rattle.wait_graph.specs.declared.difference.Difference.TheVariants.{Comm, Source as BySource, Tag as ByTag}
@@ -60,15 +60,15 @@ opens_of G (sender ∷ senders) receiver = listed_open (first_open_send G sender
 abbrev pub opens_to : ℕ → List Event → ℕ → List Open
 opens_to n G receiver = opens_of G (world n 0) receiver
 
--- no message that nobody has received fits a receive that waits: it differs in something
+-- where no pair can meet, no message that nobody has received fits a receive that waits: it differs in something
 abbrev pub NoneFits : List Event → Type 0
 NoneFits G =
-    (post send : Name) (comm room c sent : ℕ) (source : Source) (tag : Tag) (ints : List ℤ) (sync : Bool) → IsMatched G
+    (post send : Name) (comm room c sent : ℕ) (source : Source) (tag : Tag) (ints : List ℤ) (sync : Bool) → IsAllMatched G
     → named G post ≡ Some (Post comm source tag room) → partner_of (pairs_of G) post ≡ None
     → named G send ≡ Some (Send c post.0 sent ints sync) → partner_of (pairs_of G) send ≡ None
     → differences comm source tag c send.0 sent ≢ []
 
--- nor a probe that finds nothing
+-- no message that nobody has received fits a probe that finds nothing
 abbrev pub NoneFound : ℕ → List Event → Type 0
 NoneFound n G =
     (me comm c sent : ℕ) (send : Name) (source : Source) (tag : Tag) (ints : List ℤ) (sync : Bool) → has_open n G me comm source tag ≡ false

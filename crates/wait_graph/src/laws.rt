@@ -18,7 +18,7 @@ pub fn has_cause<P: Program>(program: &P, n: u8)
     ensures cause { HasCause (P.next program.now) n }
 {}
 
-/// No message that nobody has received fits a receive that waits.
+/// Where no pair can meet, no message that nobody has received fits a receive that waits.
 pub fn none_fits()
     ensures { (events : List Event) → NoneFits events }
 {}

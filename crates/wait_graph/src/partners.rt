@@ -1,11 +1,13 @@
 //! Which starts are paired.
-ghost use Rattle.std.specs.Prelude.{◌≡◌, ◌||◌, ◌==◌, ◌<◌, [], OnOk, ℕ, length};
+ghost use Rattle.std.specs.Prelude.{◌≡◌, ◌||◌, ◌==◌, ◌<◌, [], OnOk, ℕ, is_some, length};
 ghost use Rattle.msg_races.specs.declared.names.Name.{Name as NameSpec};
 ghost use Rattle.msg_races.specs.Names.{same_start};
+ghost use Rattle.run_model.specs.Pairs.{partner_of};
 ghost use Rattle.wait_graph.specs.inside.Names.{is_either};
 ghost use Rattle.wait_graph.specs.Partners.{is_marked, is_paired_in};
 
 use msg_races::names::Name;
+use run_model::event::StartName;
 use std::alloc::{AllocError, Global};
 use std::marker::Model;
 
@@ -117,6 +119,16 @@ impl Partners {
         }
     }
 
+    /// Pairs the starts of each of these pairs.
+    pub fn join_all(&mut self, pairs: &[(StartName, StartName)]) -> Result<(), AllocError>
+        ensures { OnOk result ((name : NameSpec) → is_paired_in self.new name ≡ (is_paired_in self.old name || is_some (partner_of pairs.now (name.rank, name.start)))) }
+    {
+        for (one, other) in pairs.iter() {
+            self.join(named(*one), named(*other))?;
+        }
+        Ok(())
+    }
+
     /// Marks a start as paired.
     fn mark(&mut self, name: Name) -> Result<(), AllocError>
         ensures { OnOk result ((other : NameSpec) → is_paired_in self.new other ≡ (is_paired_in self.old other || same_start name other)) }
@@ -134,5 +146,15 @@ impl Partners {
             self.ranks.push(Marks::new(self.alloc))?;
         }
         Ok(())
+    }
+}
+
+/// A start's name, from its rank and its number.
+fn named(start: StartName) -> Name
+    ensures { result ≡ record { rank = start.0; start = start.1 } }
+{
+    Name {
+        rank: start.0,
+        start: start.1,
     }
 }

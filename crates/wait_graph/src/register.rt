@@ -55,6 +55,7 @@ impl<'a> Register<'a> {
         };
         let earlier = self.earlier(event.mate);
         self.partners.join_some(earlier, name)?;
+        self.partners.join_all(event.met.as_slice())?;
         self.names.push(named(event, name))?;
         self.ranks[event.rank as usize].note(&event.call, &event.reply)?;
         Ok(())

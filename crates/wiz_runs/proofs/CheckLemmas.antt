@@ -19,6 +19,7 @@ use Rattle.group_plan.specs.Plans.{number_of_ranks}
 use Rattle.wiz_task.specs.declared.ready.Ready.{Ready}
 use Rattle.wiz_task.specs.inside.Recording.{CanRun, IsMadeRecording}
 use Rattle.wiz_runs.specs.inside.Recording.{IsKeptLog}
+use Rattle.wiz_runs.proofs.RecordingLemmas.{recorded_run}
 
 -- the logs of a recording are kept
 pub kept_logs : (program : Program) (text : List ℕ) (n : ℕ) (events : List Event) (groups : List (List ℕ)) → IsProgramOf text program
@@ -79,5 +80,6 @@ pub logs_checked : (ready : Ready) (is_threaded : Bool) (recording : Recording) 
 logs_checked ready is_threaded recording replays can made all =
     let recorded = made.is_recording.recorded in
     rw recorded.logs
-    (checks_of (pure_program ready.program) ready.text (number_of_ranks ready.plan) recording.history.events ready.plan replays (text_is ready can) recorded.picked.run
+    (checks_of (pure_program ready.program) ready.text (number_of_ranks ready.plan) recording.history.events ready.plan replays (text_is ready can)
+    (recorded_run is_threaded ready recording made)
     (rw recorded.logs at all))

@@ -39,6 +39,7 @@ use Rattle.wiz_task.specs.Recordings.{Records, RunTexts}
 use Rattle.wiz_tool.specs.Statuses.{of_ending}
 use Rattle.wiz_runs.specs.inside.Races.{AreRacesOf}
 use Rattle.wiz_runs.specs.inside.Recording.{IsCheckedRun}
+use Rattle.wiz_runs.proofs.RecordingLemmas.{recorded_run}
 use Rattle.wiz_task.specs.inside.Recording.{IsMadeRecording, IsReadyToRecord}
 use Rattle.wiz_task.specs.inside.Refusals.{IsUnmetIn}
 use Rattle.wiz_tool.specs.inside.Told.{IsFailureBy}
@@ -118,7 +119,7 @@ waits_told n ready recording graph text status outcome n_is made graph_is text_i
     let ranks : ℕ = number_of_ranks ready.plan in
     let next : Next = next_of (pure_program ready.program) in
     let events : List Event = recording.history.events in
-    let ended : IsEndedRun next ranks events = record { is_run = made.is_recording.recorded.picked.run; ended = made.is_recording.recorded.ended } in
+    let ended : IsEndedRun next ranks events = record { is_run = recorded_run true ready recording made; ended = made.is_recording.recorded.ended } in
     let stuck' : StuckExactly next ranks = rw n_is at stuck in
     let blocked' : BlockedExactly next ranks = rw n_is at blocked in
     let waits' : BlockedWait next ranks = rw n_is at waits in

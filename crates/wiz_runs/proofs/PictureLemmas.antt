@@ -25,6 +25,7 @@ use Rattle.wiz_tool.proofs.FinishLemmas.{with_files}
 use Rattle.wiz_task.specs.declared.ready.Ready.{Ready}
 use Rattle.wiz_runs.specs.Pictures.{IsDrawingOf, basis_in, picture_outcome, picture_over_text}
 use Rattle.wiz_task.specs.inside.Recording.{IsMadeRecording}
+use Rattle.wiz_runs.proofs.RecordingLemmas.{recorded_run}
 use Rattle.wiz_task.proofs.EndLemmas.{put_same, put_short, put_told, told_text}
 
 -- in the drawing of a recording all goes right
@@ -33,7 +34,7 @@ pub goes_right : (ready : Ready) (recording : Recording) (drawing : Drawn) → I
     → SpansAreDisjoint (next_of (pure_program ready.program)) → SameDrawing (next_of (pure_program ready.program)) → SameMates (next_of (pure_program ready.program))
     → IsDrawingOf (pure_program ready.program) ready.plan recording.history.events drawing
 goes_right ready recording drawing made is columns arrows lanes spans same mates =
-    let run = made.is_recording.recorded.picked.run in
+    let run = recorded_run true ready recording made in
     record {
       is_drawing = is;
       columns = λ t u event. columns (basis_in ready.plan recording.history.events drawing is) t u event is.are_depths;

@@ -9,6 +9,7 @@ use Rattle.picked_runs.specs.declared.turn.Pick.{Pick}
 use Rattle.picked_runs.specs.Picked.{IsPicked}
 use Rattle.run_model.specs.Lists.{are_below}
 use Rattle.run_model.specs.Views.{Next}
+use Rattle.run_model.proofs.Prompt.{prompt_is_run}
 use Rattle.srr_entry.specs.declared.log.Log.{Log}
 use Rattle.srr_entry.specs.Entries.{log_of}
 use Rattle.srr_log.specs.Bounds.{IsGroup}
@@ -31,7 +32,7 @@ readable_from : (next : Next) (n : ℕ) (text : List ℕ) (picks : List Pick) (e
 readable_from next n text picks events [] law brief picked words short are low = tt
 readable_from next n text picks events (group ∷ groups) law brief picked words short are low =
     let bounds = law picks events group text picked words (group_is n group are.0 (omega (arith, low))) short in (
-      record { is_text = (refl, bounds); short = brief events group text picked.run bounds },
+      record { is_text = (refl, bounds); short = brief events group text (prompt_is_run next n events picked.run) bounds },
       readable_from next n text picks events groups law brief picked words short are.1 (omega (arith, low)),
     )
 

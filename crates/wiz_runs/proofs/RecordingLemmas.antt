@@ -20,6 +20,7 @@ use Rattle.run_model.specs.declared.event.Event.{Event}
 use Rattle.run_model.specs.Chosen.{order_of}
 use Rattle.run_model.specs.Run.{IsRun}
 use Rattle.run_model.specs.Views.{Next}
+use Rattle.run_model.proofs.Prompt.{prompt_is_run}
 use Rattle.srr_entry.specs.declared.log.Log.{Log}
 use Rattle.srr_entry.specs.Entries.{log_of}
 use Rattle.srr_entry.specs.Outputs.{Output}
@@ -72,7 +73,8 @@ made_by ready recording is recorded law brief words turns fix plan is_threaded i
         readable = readable;
         of_the_run =
             rw recorded.logs
-            (logs_of_run (next_of (pure_program ready.program)) ready.text (number_of_ranks ready.plan) recording.history.events ready.plan recorded.picked.run);
+            (logs_of_run (next_of (pure_program ready.program)) ready.text (number_of_ranks ready.plan) recording.history.events ready.plan
+            (prompt_is_run (next_of (pure_program ready.program)) (number_of_ranks ready.plan) recording.history.events recorded.picked.run));
       };
       in_bounds = in_bounds_of recording.logs readable;
       few = rw (recorded.logs, length-map ready.plan (log_of ready.text (number_of_ranks ready.plan) recording.history.events)) plan.few_groups;
@@ -88,6 +90,12 @@ made_on_threads is_threaded ready recording made =
       few = made.few;
     }
 
+-- the events of a recording are a run
+pub recorded_run : (is_threaded : Bool) (ready : Ready) (recording : Recording) → IsMadeRecording is_threaded ready recording
+    → IsRun (next_of (pure_program ready.program)) (number_of_ranks ready.plan) recording.history.events
+recorded_run is_threaded ready recording made =
+    prompt_is_run (next_of (pure_program ready.program)) (number_of_ranks ready.plan) recording.history.events made.is_recording.recorded.picked.run
+
 -- the run of what is run
 pub run_made : (is_threaded : Bool) (ready : Ready) (recording : Recording) → IsMadeRecording is_threaded ready recording
     → IsRunOfAProgram (number_of_ranks ready.plan) recording.history.events
@@ -96,11 +104,11 @@ run_made is_threaded ready recording made = record {
   ends = ends_exactly (pure_program ready.program);
   asks = asks_in_bounds (pure_program ready.program);
   enters = enters_in_form (pure_program ready.program);
-  run = made.is_recording.recorded.picked.run;
+  run = recorded_run is_threaded ready recording made;
 }
 
 -- its events are of its ranks
 pub ranks_below : (is_threaded : Bool) (ready : Ready) (recording : Recording) → IsMadeRecording is_threaded ready recording
     → AreOfRanks (number_of_ranks ready.plan) recording.history.events
 ranks_below is_threaded ready recording made =
-    run_ranks (next_of (pure_program ready.program)) (number_of_ranks ready.plan) recording.history.events made.is_recording.recorded.picked.run
+    run_ranks (next_of (pure_program ready.program)) (number_of_ranks ready.plan) recording.history.events (recorded_run is_threaded ready recording made)

@@ -108,7 +108,7 @@ IsReadBack n turns = IsOrderText n (turns_text turns) turns
 -- ---- what is done
 
 -- the runs of what the texts hold are searched, those that begin with what the turns make, and the outcome tells what was found. With 0 no
--- whole run of these is halted
+-- whole run of these in which nothing is late is halted
 pub record Explores (prefix : Text) (most polls : ℕ) (texts : RunTexts) (outcome : TaskOutcome) : Type 0 where
   pub program : Program
   pub groups : Plan

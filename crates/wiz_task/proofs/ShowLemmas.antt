@@ -4,7 +4,7 @@ use Rattle.c_program.specs.Tree.{Program}
 use Rattle.c_program.specs.Program.{next_of, output_of}
 use Rattle.c_types.specs.Checks.{IsProgramOf}
 use Rattle.replay_model.specs.declared.replayed.Replayed.{Replayed}
-use Rattle.replay_model.specs.Laws.{IsRunWith, ShowsInEveryOrder}
+use Rattle.replay_model.specs.Laws.{IsRunWith, ReplaysInEveryOrder, ShowsInEveryOrder}
 use Rattle.replay_model.specs.Replays.{Breakpoint}
 use Rattle.run_model.specs.declared.event.Event.{Event}
 use Rattle.srr_entry.specs.declared.log.Log.{Log}
@@ -15,8 +15,9 @@ use Rattle.wiz_task.specs.inside.Replaying.{IsReplayBy}
 pub shows_by : (text : List ℕ) (program : Program) (log : Log) (stop : Breakpoint) (replayed : Replayed) → IsProgramOf text program → IsReplayBy program log stop replayed
     → ((other : Program) → IsProgramOf text other → program ≡ other)
     → ((run : List Event) → IsRunWith (next_of program) log run → ShowsInEveryOrder (next_of program) (output_of program) log run)
+    → ((run : List Event) → IsRunWith (next_of program) log run → ReplaysInEveryOrder (next_of program) log)
     → IsReplayOf text log stop replayed
-shows_by text program log stop replayed is_program is same orders = record {
+shows_by text program log stop replayed is_program is same orders replays = record {
   program = program;
   is_program = is_program;
   replay = is.replay;
@@ -25,5 +26,6 @@ shows_by text program log stop replayed is_program is same orders = record {
         whole = record { replays = is.replay.replays; exhausted = is.replay.exhausted };
         runs = is.runs;
         orders = orders;
+        replays = replays;
       });
 }

@@ -20,7 +20,7 @@ use Rattle.picked_runs.specs.Turns.{IsRunByTurns, turns_of}
 use Rattle.run_model.specs.Chosen.{order_of}
 use Rattle.run_model.specs.Lists.{IsPrefixOf}
 use Rattle.run_model.specs.MachineLaws.{has_stuck}
-use Rattle.run_model.specs.Run.{IsRun}
+use Rattle.run_model.specs.Run.{IsPromptRun}
 use Rattle.run_model.specs.Views.{Next}
 use Rattle.srr_entry.specs.declared.log.Log.{Log}
 use Rattle.srr_log2.specs.LogBytes.{AreLogBytes, log_bytes}
@@ -47,12 +47,12 @@ pub record ArePrepared (texts : RunTexts) (program : Program) (groups : Plan) (t
   pub are_turns : AreTurns (number_of_ranks groups) texts.order turns
 
 -- on one thread: the run of the turns, and the only one. It begins with each run that these turns are the order and the picks of, and so
--- with each run that the matching rules allow, where they are its order and what it picked; the run has no Stuck reply, and its new
+-- with each run in which nothing is late, where they are its order and what it picked; the run has no Stuck reply, and its new
 -- communicators are numbered as a recording numbers them
 pub record IsInTurns (next : Next) (n : ℕ) (turns : List Turn) (events : List Event) : Type 0 where
   pub run : IsRunInTurns next n turns events
   pub only : (others : List Event) → IsRunByTurns next n turns others → others ≡ events
-  pub allowed : (run : List Event) → IsRun next n run → AreNumberedInOrder n run → has_stuck run ≡ false → turns_of (order_of run) (picks_of n run) ≡ turns → IsPrefixOf run events
+  pub allowed : (run : List Event) → IsPromptRun next n run → AreNumberedInOrder n run → has_stuck run ≡ false → turns_of (order_of run) (picks_of n run) ≡ turns → IsPrefixOf run events
 
 -- the run is the only one with its order in which the same was picked
 abbrev pub IsAlone : Next → ℕ → Recording → Type 0

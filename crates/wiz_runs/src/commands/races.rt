@@ -8,6 +8,7 @@ ghost use Rattle.mpi_call.specs.Lists.{IsIn};
 ghost use Rattle.msg_races.specs.declared.receives.WildcardReceive.{WildcardReceive};
 ghost use Rattle.other_picks.specs.declared.other.OtherPick.{OtherPick};
 ghost use Rattle.other_picks.specs.Others.{others_of};
+ghost use Rattle.run_model.specs.Run.{IsRun};
 ghost use Rattle.wiz_runs.specs.RaceOrders.{IsOtherOrder};
 ghost use Rattle.wiz_runs.specs.Runs.{races_outcome, races_over_text, reported_races};
 ghost use Rattle.wiz_task.specs.inside.Ends.{EndsTask};
@@ -71,7 +72,8 @@ fn races_of(alloc: Global, ready: &Ready, recording: &Recording) -> Result<Races
     requires { IsMadeRecording true ready.now recording.now }
     ensures { IfOk result (AreRacesOf ready.now recording.now) }
 {
-    // A law: a run has one list of races, so that what is told of this run is determined.
+    // Two laws: what was recorded is a run, and a run has one list of races, so that what is told of this run is determined.
+    is_a_run(ready, recording);
     one_list();
     match msg_races::races::races(alloc, ready.plan.n(), &recording.history) {
         Ok(receives) => Ok(RacesText {
@@ -85,6 +87,12 @@ fn races_of(alloc: Global, ready: &Ready, recording: &Recording) -> Result<Races
         Err(RaceFault::NoMemory) => Err(AllocError),
     }
 }
+
+/// A law: what was recorded is a run.
+fn is_a_run(ready: &Ready, recording: &Recording)
+    requires { IsMadeRecording true ready.now recording.now }
+    ensures { IsRun (next_of (pure_program ready.now.program)) (number_of_ranks ready.now.plan) recording.now.history.events }
+{}
 
 /// A law: each other pick of a recorded run has an order, which is recorded into a run with it.
 fn others_are_recorded(ready: &Ready, recording: &Recording)

@@ -1,6 +1,6 @@
 use Rattle.std.proofs.Common.{◌∙◌, ℕ, List, subst, sym}
 use Rattle.run_model.specs.declared.event.Event.{Event}
-use Rattle.run_model.specs.Run.{IsRun}
+use Rattle.run_model.specs.Run.{IsPromptRun}
 use Rattle.run_model.specs.Views.{Next}
 use Rattle.quiet_calls.specs.Quiet.{Races}
 use Rattle.explore.specs.Courses.{IsQuietlyAnswered}
@@ -109,7 +109,7 @@ returns g c =
     let two = c.make.new.machine in
     let L : List Event → Type 0 = λ l. IsLastAnswered l in
     let last : IsLastAnswered two.events = subst L (c.as_slice.ensures.events ∙ c.history.ensures.events) (when_true _ _ c.if-not-is_last_answered.false c.is_last_answered.ensures) in
-    let all : IsRun next n two.events =
+    let all : IsPromptRun next n two.events =
     run_of g.P.Program.next two.program program two.ranks n two.events (c.in_ok-make.ensures.program ∙ c.requires.course.program_is) (c.in_ok-make.ensures.ranks ∙ c.requires.course.ranks_are) c.history.ensures.run in
     record {
       course = λ made. not_both (sym made);

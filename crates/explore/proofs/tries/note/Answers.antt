@@ -1,6 +1,6 @@
 use Rattle.std.proofs.Common.{◌≡◌, ◌∙◌, ◌++◌, ◌∷◌, ℕ, List, [], None, Some, ap, inl, sym, subst}
 use Rattle.run_model.specs.declared.event.Event.{Event}
-use Rattle.run_model.specs.Run.{IsRun}
+use Rattle.run_model.specs.Run.{IsPromptRun}
 use Rattle.run_model.specs.Views.{Next}
 use Rattle.picked_runs.specs.declared.turn.Turn.{Turn}
 use Rattle.explore.specs.Explored.{events_of_turns}
@@ -23,7 +23,7 @@ note_state-requires-clause-step g c =
     let root : List Event = events_of_turns next n c.args.setting.now.under.now in
     let machine = c.args.course.now.machine in
     let turns : List Turn = c.args.turns.now in
-    let run : IsRun next n machine.events = run_of g.P.Program.next machine.program c.args.setting.now.program.now machine.ranks n machine.events c.requires.program c.requires.ranks c.history-history.ensures.run in
+    let run : IsPromptRun next n machine.events = run_of g.P.Program.next machine.program c.args.setting.now.program.now machine.ranks n machine.events c.requires.program c.requires.ranks c.history-history.ensures.run in
     let pick : IsPickOf n c.args.turn.pick =
     pick_within next n (events_of_turns next n turns) c.args.turn.rank c.requires.made.call c.args.turn.pick
     (record { ends = g.P.Program.ends_exactly c.args.setting.now.program.now; enters = g.P.Program.enters_in_form c.args.setting.now.program.now })
@@ -42,7 +42,7 @@ returns-in_ok-more-in-None-clause-tried g c =
     let root : List Event = events_of_turns next n c.args.setting.now.under.now in
     let machine = c.args.course.now.machine in
     let turns : List Turn = c.args.turns.now in
-    let run : IsRun next n machine.events = run_of g.P.Program.next machine.program c.args.setting.now.program.now machine.ranks n machine.events c.requires.program c.requires.ranks c.history-history.ensures.run in
+    let run : IsPromptRun next n machine.events = run_of g.P.Program.next machine.program c.args.setting.now.program.now machine.ranks n machine.events c.requires.program c.requires.ranks c.history-history.ensures.run in
     let none : halted machine.events ≡ None = sym c.halt.ensures ∙ c.in-None.is in
     let F : List Event → Type 0 = λ events. IsStepFollowed next n c.args.bounds.polls c.note_state.new.met events in
     on_ok_map _ _ c.note_state.result (λ followed. tried_state next output n c.args.bounds.polls root turns machine.events c.args.turn c.note_state.new.met c.requires.state run c.requires.made none
@@ -65,7 +65,7 @@ note_end-requires-clause-end g c =
     let root : List Event = events_of_turns next n c.args.setting.now.under.now in
     let machine = c.args.course.now.machine in
     let turns : List Turn = c.args.turns.now in
-    let run : IsRun next n machine.events = run_of g.P.Program.next machine.program c.args.setting.now.program.now machine.ranks n machine.events c.requires.program c.requires.ranks c.history-history.ensures.run in
+    let run : IsPromptRun next n machine.events = run_of g.P.Program.next machine.program c.args.setting.now.program.now machine.ranks n machine.events c.requires.program c.requires.ranks c.history-history.ensures.run in
     let there : halted machine.events ≡ Some Stuck = sym c.halt.ensures ∙ (c.in-Some.is ∙ ap (λ h. Some h) c.in-Stuck.is) in
     let F : List Turn → Type 0 = λ l. IsAtEnd next n (events_of_turns next n l) in
     subst F (sym c.in_ok-same-in-Stuck.ensures) (inl (stuck_end next n root turns machine.events c.args.turn c.requires.state run c.requires.made there))
@@ -78,7 +78,7 @@ returns-in_ok-same-in-Stuck-clause-tried g c =
     let root : List Event = events_of_turns next n c.args.setting.now.under.now in
     let machine = c.args.course.now.machine in
     let turns : List Turn = c.args.turns.now in
-    let run : IsRun next n machine.events = run_of g.P.Program.next machine.program c.args.setting.now.program.now machine.ranks n machine.events c.requires.program c.requires.ranks c.history-history.ensures.run in
+    let run : IsPromptRun next n machine.events = run_of g.P.Program.next machine.program c.args.setting.now.program.now machine.ranks n machine.events c.requires.program c.requires.ranks c.history-history.ensures.run in
     let there : halted machine.events ≡ Some Stuck = sym c.halt.ensures ∙ (c.in-Some.is ∙ ap (λ h. Some h) c.in-Stuck.is) in
     let stuck = stuck_end next n root turns machine.events c.args.turn c.requires.state run c.requires.made there in
     let F : List Turn → Type 0 = λ l. IsOutcomeListed next output n l c.note_end.new.met.found in
@@ -94,7 +94,7 @@ note_end-requires-in_default g c =
     let root : List Event = events_of_turns next n c.args.setting.now.under.now in
     let machine = c.args.course.now.machine in
     let turns : List Turn = c.args.turns.now in
-    let run : IsRun next n machine.events = run_of g.P.Program.next machine.program c.args.setting.now.program.now machine.ranks n machine.events c.requires.program c.requires.ranks c.history-history.ensures.run in
+    let run : IsPromptRun next n machine.events = run_of g.P.Program.next machine.program c.args.setting.now.program.now machine.ranks n machine.events c.requires.program c.requires.ranks c.history-history.ensures.run in
     let pick : IsPickOf n c.args.turn.pick =
     pick_within next n (events_of_turns next n turns) c.args.turn.rank c.requires.made.call c.args.turn.pick
     (record { ends = g.P.Program.ends_exactly c.args.setting.now.program.now; enters = g.P.Program.enters_in_form c.args.setting.now.program.now })
@@ -118,7 +118,7 @@ returns-in_ok-more-in_default g c =
     let root : List Event = events_of_turns next n c.args.setting.now.under.now in
     let machine = c.args.course.now.machine in
     let turns : List Turn = c.args.turns.now in
-    let run : IsRun next n machine.events = run_of g.P.Program.next machine.program c.args.setting.now.program.now machine.ranks n machine.events c.requires.program c.requires.ranks c.history-history.ensures.run in
+    let run : IsPromptRun next n machine.events = run_of g.P.Program.next machine.program c.args.setting.now.program.now machine.ranks n machine.events c.requires.program c.requires.ranks c.history-history.ensures.run in
     let there : halted machine.events ≡ Some c.in-Some.halt = sym c.halt.ensures ∙ c.in-Some.is in
     let other : c.in-Some.halt ≡ Stuck → ⊥ = c.in_default.not-Stuck in
     let same = halt_under next n root turns machine.events c.args.turn c.in-Some.halt c.requires.state c.requires.rank run c.requires.made there other in

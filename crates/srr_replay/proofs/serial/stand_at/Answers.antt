@@ -14,4 +14,5 @@ unreachable-requires g c =
       call = c.requires.next;
       reply = sym c.in_ok-attempt.ensures.answer ∙ c.in-Replied.is;
       mate = refl;
+      alone = refl;
     })

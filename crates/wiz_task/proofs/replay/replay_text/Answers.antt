@@ -7,5 +7,5 @@ use Rattle.wiz_task.proofs.replay.replay_text.Goals as goal
 pub returns : goal.returns
 returns g c =
     if_ok c.replay.result _ (IsReplayOf c.args.text.now c.args.log.now c.args.stop)
-    (λ replayed by. shows_by c.args.text.now (pure_program c.args.program.now) c.args.log.now c.args.stop replayed c.requires.program by c.text_fixes_meaning.ensures c.every_order_shows_every_run.ensures.shows)
+    (λ replayed by. shows_by c.args.text.now (pure_program c.args.program.now) c.args.log.now c.args.stop replayed c.requires.program by c.text_fixes_meaning.ensures c.every_order_shows_every_run.ensures.shows c.every_order_shows_every_run.ensures.replays)
     c.replay.ensures

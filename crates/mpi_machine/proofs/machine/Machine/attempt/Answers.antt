@@ -1,12 +1,12 @@
 use Rattle.std.proofs.Common.{◌∙◌, ap, subst}
-use Rattle.run_model.specs.Run.{IsRun}
+use Rattle.run_model.specs.Run.{IsPromptRun}
 use Rattle.mpi_machine.specs.Turns.{MachineState}
 use Rattle.mpi_machine.proofs.Attempting.{given, goes_on_serially, same_program}
 use Rattle.mpi_machine.proofs.machine.Machine.attempt.Goals as goal
 
 pub returns-clause-shape : goal.returns-clause-shape
 returns-clause-shape g c = λ reply replied.
-    let F : g.row.P.Denot → Type 0 = λ p. IsRun (g.P.Program.next p) c.turn.new.self.ranks c.turn.new.self.events in
+    let F : g.row.P.Denot → Type 0 = λ p. IsPromptRun (g.P.Program.next p) c.turn.new.self.ranks c.turn.new.self.events in
     let later = subst F
     (ap (λ (m : MachineState g.row.P.Denot). m.program) c.in_ok-turn.ensures.after ∙ same_program c.args.self.now c.args.rank c.args.call c.in_ok-turn.turn)
     c.is_run-2.ensures.run in

@@ -1,6 +1,6 @@
 use Rattle.std.proofs.Common.{◌∙◌, ap, subst}
 use Rattle.picked_runs.specs.declared.turn.Pick.TheVariants.{Index}
-use Rattle.run_model.specs.Run.{IsRun}
+use Rattle.run_model.specs.Run.{IsPromptRun}
 use Rattle.mpi_machine.specs.Turns.{MachineState}
 use Rattle.mpi_machine.proofs.Indexing.{index_apart}
 use Rattle.mpi_machine.proofs.Picking.{picked_given, picked_stands, same_pick_program}
@@ -8,7 +8,7 @@ use Rattle.mpi_machine.proofs.machine.Machine.attempt_at.Goals as goal
 
 pub returns-clause-shape : goal.returns-clause-shape
 returns-clause-shape g c = λ reply replied.
-    let F : g.row.P.Denot → Type 0 = λ p. IsRun (g.P.Program.next p) c.at.new.self.ranks c.at.new.self.events in
+    let F : g.row.P.Denot → Type 0 = λ p. IsPromptRun (g.P.Program.next p) c.at.new.self.ranks c.at.new.self.events in
     let later = subst F
     (ap (λ (m : MachineState g.row.P.Denot). m.program) c.in_ok-answer.ensures.after ∙ same_pick_program c.args.self.now c.args.rank c.args.call (Index c.args.index) c.in_ok-answer.answer)
     c.is_run-2.ensures.run in

@@ -1,10 +1,11 @@
-use Rattle.std.proofs.Common.{◌≡◌, ◌<◌, ◌∙◌, ◌++◌, ◌∷◌, ◌||◌, [], ℕ, ap, arith, get_or, length, refl, subst, sym}
+use Rattle.std.proofs.Common.{◌≡◌, ◌<◌, ◌∙◌, ◌++◌, ◌∷◌, ◌||◌, [], ℕ, ap, arith, get_or, is_some, length, List, refl, subst, sym}
 use Rattle.std.proofs.lemmas.List.{get_or_read}
 use Rattle.wait_graph.specs.declared.own.RankRecord.{RankRecord}
 use Rattle.msg_races.specs.declared.names.Name.{Name as StartName}
-use Rattle.wait_graph.specs.Register.{IsRankRecord}
+use Rattle.wait_graph.specs.Register.{IsRankRecord, name_pair}
 use Rattle.wait_graph.specs.inside.Names.{is_either}
 use Rattle.wait_graph.specs.Partners.{is_paired_in}
+use Rattle.run_model.specs.Pairs.{Name, partner_of}
 use Rattle.run_model.specs.Views.{view_of}
 use Rattle.wait_graph.proofs.RegisterLemmas.{register_more, few_calls}
 use Rattle.wait_graph.proofs.register.Register.note.Goals as goal
@@ -33,4 +34,6 @@ returns c = λ n before is low.
     (λ d own. c.in_ok-note.ensures n (view_of before rank) (subst (IsRankRecord n (view_of before rank)) (sym (moved d)) own))
     (c.in_ok-push.ensures.items ∙ ap (λ m. old.names.items ++ m ∷ []) c.named.ensures) refl
     (λ d. ap (λ (o : RankRecord). o.starts) (mine d))
-    (λ other. c.in_ok-join_some.ensures other ∙ ap (λ e. is_paired_in old.partners other || is_either e name other) c.earlier-earlier.ensures)
+    (λ other. c.in_ok-join_all.ensures other
+    ∙ (ap (λ (l : List (Name × Name)). is_paired_in c.join_some.new.self other || is_some (partner_of l (name_pair other))) c.as_slice.ensures
+    ∙ ap (λ b. b || is_some (partner_of c.args.event.now.met (name_pair other))) (c.in_ok-join_some.ensures other ∙ ap (λ e. is_paired_in old.partners other || is_either e name other) c.earlier-earlier.ensures)))
